@@ -1,0 +1,4 @@
+pub mod BlockLaws
+pub mod AeadLaws
+pub mod HashLaws
+pub mod Customized

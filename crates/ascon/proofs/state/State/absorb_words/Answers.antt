@@ -1,0 +1,24 @@
+use mathlib.Core.Path.{_≡_, refl}
+use native.Mathlib.Omega.{arith}
+use Rattle.std.proofs.shelf.Lists.{take-rest, length-take, length-drop}
+use Rattle.ascon.specs.Blocks.{pad}
+use Rattle.ascon.proofs.HashLaws.{absorbedWords-more, absorbedWords-last}
+use Rattle.ascon.proofs.state.State.absorb_words.Needs as need
+
+pub loop-rest-holds : need.loop-rest-holds
+loop-rest-holds c = refl
+
+pub loop-rest-less : need.loop-rest-less
+loop-rest-less c = simp (length-take, length-drop) (omega arith)
+
+pub loop-rest-again : need.loop-rest-again
+loop-rest-again c =
+    let step = absorbedWords-more (c .loop-rest .s) (c .loop-rest .rest .now) (omega arith) in
+    let rest = take-rest (c .loop-rest .rest .now) 8 in
+    cc
+
+pub returns : need.returns
+unfolding pad
+returns c =
+    let last = absorbedWords-last (c .loop-rest .s) (c .loop-rest .rest .now) (omega arith) in
+    cc

@@ -1,0 +1,45 @@
+// Bytes as 64-bit words, lowest byte first, and the padding of a last block.
+ghost use mathlib.Core.Path.{_≡_};
+ghost use Prim.Native.Nat.{_+_, _-_, _<_, _≤_};
+ghost use mathlib.Core.List.{_∷_, _++_};
+ghost use lib.ListN.{length, drop, replicate};
+ghost use Rattle.ascon.specs.Blocks.{word, bytes};
+
+// The word of the eight bytes from `at` on.
+pub(crate) fn load(b: &[u8], at: usize) -> u64
+    requires { ⌜ at + 8 ≤ length (now b) ⌝ }
+    ensures { λ r. ⌜ r ≡ word (drop at (now (b .entry))) ⌝ }
+{
+    u64::from_le_bytes([
+        b[at],
+        b[at + 1],
+        b[at + 2],
+        b[at + 3],
+        b[at + 4],
+        b[at + 5],
+        b[at + 6],
+        b[at + 7],
+    ])
+}
+
+// The bytes of two words.
+pub(crate) fn store_pair(out: &mut [u8], low: u64, high: u64)
+    requires { ⌜ length (now out) ≡ 16 ⌝ }
+    ensures { λ _. ⌜ now (out .exit) ≡ bytes low ++ bytes high ⌝ }
+{
+    out[0..8].copy_from_slice(&low.to_le_bytes());
+    out[8..16].copy_from_slice(&high.to_le_bytes());
+}
+
+// The byte that begins the padding of a last block.
+pub(crate) const PAD: u8 = 1;
+
+// The last bytes of a message and a byte behind them, into a block of noughts.
+pub(crate) fn put_last(block: &mut [u8], tail: &[u8], mark: u8)
+    requires { ⌜ length (now tail) < length (now block) ⌝ ∗ ⌜ now block ≡ replicate (length (now block)) 0 ⌝ }
+    ensures { λ _. ⌜ now (block .exit) ≡ now (tail .entry) ++ mark ∷ replicate (length (now (block .entry)) - 1 - length (now (tail .entry))) 0 ⌝ }
+{
+    let n = tail.len();
+    block[0..n].copy_from_slice(tail);
+    block[n] = mark;
+}
