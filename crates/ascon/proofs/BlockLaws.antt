@@ -9,6 +9,8 @@ use lib.ListN.{length, getD, take, drop, set, replicate}
 use borrow.Rule.Slice.PartMut.{putMid, postOf}
 use Rattle.std.proofs.shelf.Lists.{length-append, length-take, length-drop, drop-drop, drop-all, take-at, drop-at, set-at, drop-replicate, append-assoc, append-nil}
 use Rattle.std.proofs.shelf.Parts.{take-putMid, drop-putMid}
+use mathlib.Core.Logic.{⊎-elim}
+use Rattle.std.proofs.shelf.Tests.{cases-lt}
 use lib.Dec.{lit<}
 use lib.Seq.{getD-drop, getD-take, take-append-add}
 use Rattle.ascon.specs.Blocks.{pad, blocks, padded, bytes, word}
@@ -20,6 +22,23 @@ whole-more r m p h = div-eq-sub-div p h ∙ (add-one ((length m - r) / r) ∙ ap
 -- no whole block
 pub whole-none : (r : ℕ) (m : List ℕ) → length m < r → length m / r ≡ 0
 whole-none r m h = div-eq-of-lt h
+
+-- n whole blocks of r bytes, and less than one more
+abbrev pub Cut : ℕ → ℕ → List ℕ → Type 0
+Cut r zero m = length m < r
+Cut r (suc n) m = (r ≤ length m) × Cut r n (drop r m)
+
+pub cut : (r : ℕ) → 0 < r → (n : ℕ) (m : List ℕ) → length m / r ≡ n → Cut r n m
+cut r p zero m e =
+    ⊎-elim
+      (λ (h : length m < r). h)
+      (λ (h : r ≤ length m). let more = whole-more r m p h in let z : ⊥ = omega arith in absurd z)
+      (cases-lt (length m) r)
+cut r p (suc n) m e =
+    ⊎-elim
+      (λ (h : length m < r). let none = whole-none r m h in let z : ⊥ = omega arith in absurd z)
+      (λ (h : r ≤ length m). let more = whole-more r m p h in (h, cut r p n (drop r m) (omega arith)))
+      (cases-lt (length m) r)
 
 pub padded-more : (r : ℕ) (m : List ℕ) → 0 < r → r ≤ length m → padded r m ≡ take r m ∷ padded r (drop r m)
 unfolding padded blocks
