@@ -101,19 +101,19 @@ pub differs-more : (d i : ℕ) (xs ys : List ℕ) → i < length xs → i < leng
 differs-more d i xs ys p q h =
     let more-xs = take-more xs i 0 p in
     let more-ys = take-more ys i 0 q in
-    record
-      { equal = λ e.
+    record {
+      equal = λ e.
           let parts = or-nought d (bitXor (getD xs i 0) (getD ys i 0)) e in
           let before = h .equal (parts .0) in
           let here = xor-nought (getD xs i 0) (getD ys i 0) (parts .1) in
-          cc
-      ; nought = λ e.
+          cc;
+      nought = λ e.
           let parts = same-from-push (take i xs) (take i ys) (getD xs i 0) (getD ys i 0) (sym more-xs ∙ (e ∙ more-ys)) in
           let before : d ≡ 0 = h .nought (parts .0) in
           let here : bitXor (getD xs i 0) (getD ys i 0) ≡ 0 = ap (bitXor (getD xs i 0)) (sym (parts .1)) ∙ xor-self (getD xs i 0) in
           let none : bitOr 0 0 ≡ 0 = refl in
-          cc
-      }
+          cc;
+    }
 
 -- a last block of ciphertext, filled up with noughts
 pub add-noughts : (s : State) (c : List ℕ) (k : ℕ) → add s (c ++ 0 ∷ replicate k 0) ≡ add s c
@@ -133,12 +133,12 @@ module _ (text : ℕ → State → List ℕ → List ℕ) (state : ℕ → State
   left-more s′ out k size fits whole step step′ =
       let longer = length-written cur out at k size fits whole in
       let behind = behind-written cur out at k size fits whole in
-      record
-        { within = rw longer fits
-        ; whole = longer ∙ left .whole
-        ; bytes = block-written cur out at k size fits whole (λ rest. text (length rest / 16) s′ rest) ∙ (ap (λ (x : List ℕ). take at cur ++ x) (sym step) ∙ left .bytes)
-        ; after = ap (λ (x : List ℕ). state (length x / 16) s′ x) behind ∙ (sym step′ ∙ left .after)
-        }
+      record {
+        within = rw longer fits;
+        whole = longer ∙ left .whole;
+        bytes = block-written cur out at k size fits whole (λ rest. text (length rest / 16) s′ rest) ∙ (ap (λ (x : List ℕ). take at cur ++ x) (sym step) ∙ left .bytes);
+        after = ap (λ (x : List ℕ). state (length x / 16) s′ x) behind ∙ (sym step′ ∙ left .after);
+      }
 
   pub left-length : (out : List ℕ) → length out ≡ length (take (length cur - at) (drop at cur)) → length (putMid at (length cur - at) cur out) ≡ length t₀
   left-length out l =
@@ -183,10 +183,10 @@ module _ (k n a c g expected : List ℕ) (s f : State) (b : Bool) (start : s ≡
   unfolding opened
   opened-by = cc
 
-  pub opens : (out : List ℕ) → b ≡ true → out ≡ decrypted (length c / 16) s c → (b ≡ isSome (opened k n a c g)) × (out ≡ valueOr (opened k n a c g) (replicate (length c) 0))
+  pub opens : (out : List ℕ) → b ≡ true → out ≡ decrypted (length c / 16) s c → (b ≡ isSome (opened k n a c g)) × (out ≡ valueOr (opened k n a c g) (replicate (length c) 0)) × (opened k n a c g ≡ Some out)
   opens out t o =
       let e : opened k n a c g ≡ Some out = opened-by ∙ (cond-true b (Some (decrypted (length c / 16) s c)) None t ∙ ap Some (sym o)) in
-      (t ∙ sym (ap isSome e), sym (ap (λ x. valueOr x (replicate (length c) 0)) e))
+      (t ∙ sym (ap isSome e), sym (ap (λ x. valueOr x (replicate (length c) 0)) e), e)
 
   pub refuses : (out : List ℕ) → b ≡ false → out ≡ replicate (length c) 0 → (b ≡ isSome (opened k n a c g)) × (out ≡ valueOr (opened k n a c g) (replicate (length c) 0))
   refuses out t o =

@@ -31,14 +31,14 @@ Cut r (suc n) m = (r ≤ length m) × Cut r n (drop r m)
 pub cut : (r : ℕ) → 0 < r → (n : ℕ) (m : List ℕ) → length m / r ≡ n → Cut r n m
 cut r p zero m e =
     ⊎-elim
-      (λ (h : length m < r). h)
-      (λ (h : r ≤ length m). let more = whole-more r m p h in let z : ⊥ = omega arith in absurd z)
-      (cases-lt (length m) r)
+    (λ (h : length m < r). h)
+    (λ (h : r ≤ length m). let more = whole-more r m p h in let z : ⊥ = omega arith in absurd z)
+    (cases-lt (length m) r)
 cut r p (suc n) m e =
     ⊎-elim
-      (λ (h : length m < r). let none = whole-none r m h in let z : ⊥ = omega arith in absurd z)
-      (λ (h : r ≤ length m). let more = whole-more r m p h in (h, cut r p n (drop r m) (omega arith)))
-      (cases-lt (length m) r)
+    (λ (h : length m < r). let none = whole-none r m h in let z : ⊥ = omega arith in absurd z)
+    (λ (h : r ≤ length m). let more = whole-more r m p h in (h, cut r p n (drop r m) (omega arith)))
+    (cases-lt (length m) r)
 
 pub padded-more : (r : ℕ) (m : List ℕ) → 0 < r → r ≤ length m → padded r m ≡ take r m ∷ padded r (drop r m)
 unfolding padded blocks

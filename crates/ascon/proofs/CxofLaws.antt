@@ -17,9 +17,9 @@ use Rattle.ascon.proofs.WordLaws.{byte-word, Bytes-take, Bytes-drop, Bytes-pad
 word-determines : (a b : List ℕ) → Bytes a → Bytes b → length a ≡ 8 → length b ≡ 8 → word a ≡ word b → a ≡ b
 word-determines a b h k l m e =
     ext-getD 0 a b (l ∙ sym m)
-      (λ (i : ℕ) (p : i < length a).
-        let q : i < 8 = omega arith in
-        sym (byte-word a h i q) ∙ (ap (λ x. getD (bytes x) i 0) e ∙ byte-word b k i q))
+    (λ (i : ℕ) (p : i < length a).
+    let q : i < 8 = omega arith in
+    sym (byte-word a h i q) ∙ (ap (λ x. getD (bytes x) i 0) e ∙ byte-word b k i q))
 
 -- the byte that begins the padding, and the noughts behind it
 pad-mark : (r : ℕ) (m : List ℕ) → getD (pad r m) (length m) 0 ≡ 1
@@ -49,11 +49,11 @@ pad-apart r m n l e =
 pad-determines : (r : ℕ) (m n : List ℕ) → pad r m ≡ pad r n → m ≡ n
 pad-determines r m n e =
     ⊎-elim
-      (λ (l : length m ≡ length n). sym (pad-front r m) ∙ (ap (λ k. take k (pad r m)) l ∙ (ap (take (length n)) e ∙ pad-front r n)))
-      (⊎-elim
-        (λ (l : length m < length n). pad-apart r m n l e)
-        (λ (l : length n < length m). sym (pad-apart r n m l (sym e))))
-      (cases-order (length m) (length n))
+    (λ (l : length m ≡ length n). sym (pad-front r m) ∙ (ap (λ k. take k (pad r m)) l ∙ (ap (take (length n)) e ∙ pad-front r n)))
+    (⊎-elim
+    (λ (l : length m < length n). pad-apart r m n l e)
+    (λ (l : length n < length m). sym (pad-apart r n m l (sym e))))
+    (cases-order (length m) (length n))
 
 length-blocks : (r n : ℕ) (m : List ℕ) → length (blocks r n m) ≡ suc n
 unfolding blocks

@@ -40,6 +40,7 @@ rate-add s b h i p = ⊎-elim low high (cases-lt i 8) where
       let one = getD-append-left (bytes (bitXor (s .x0) (word b))) (bytes (bitXor (s .x1) (word (drop 8 b)))) 0 i l in
       let two = getD-append-left (bytes (s .x0)) (bytes (s .x1)) 0 i r in
       one ∙ (byte-xor (s .x0) (word b) i q ∙ (ap (bitXor (getD (bytes (s .x0)) i 0)) (byte-word b h i q) ∙ sym (ap (λ n. bitXor n (getD b i 0)) two)))
+
   high : 8 ≤ i → getD (bytes (bitXor (s .x0) (word b)) ++ bytes (bitXor (s .x1) (word (drop 8 b)))) i 0 ≡ bitXor (getD (bytes (s .x0) ++ bytes (s .x1)) i 0) (getD b i 0)
   high q =
       let j : i - 8 < 8 = omega arith in
@@ -59,9 +60,9 @@ back-front s b c x h k l e f =
     let whole : length (rate (add s c)) ≡ 16 = length-rate (add s c) in
     let long : length (take (length x) (rate (add s c))) ≡ length x = length-take-le (length x) (rate (add s c)) (omega arith) in
     ext-getD 0 (take (length x) (rate (add s c))) x long
-      (λ (i : ℕ) (p : i < length (take (length x) (rate (add s c)))).
-        let q : i < length x = omega arith in
-        getD-take (length x) (rate (add s c)) i 0 q ∙ (back s b c h k i (omega arith) (e i q) ∙ f i q))
+    (λ (i : ℕ) (p : i < length (take (length x) (rate (add s c)))).
+    let q : i < length x = omega arith in
+    getD-take (length x) (rate (add s c)) i 0 q ∙ (back s b c h k i (omega arith) (e i q) ∙ f i q))
 
 -- a whole block
 back-whole : (s : State) (b : List ℕ) → Bytes b → length b ≡ 16 → rate (add s (rate (add s b))) ≡ b
@@ -77,8 +78,8 @@ length-part s n h = length-take-le n (rate s) (let w = length-rate s in omega ar
 back-text : (s : State) (t : List ℕ) → Bytes t → length t < 16 → take (length t) (rate (add s (take (length t) (rate (add s (pad 16 t)))))) ≡ t
 back-text s t h l =
     back-front s (pad 16 t) (take (length t) (rate (add s (pad 16 t)))) t (Bytes-pad 16 t h) (Bytes-take (length t) (rate (add s (pad 16 t))) (Bytes-rate (add s (pad 16 t)))) (omega arith)
-      (λ (i : ℕ) (q : i < length t). getD-take (length t) (rate (add s (pad 16 t))) i 0 q)
-      (λ (i : ℕ) (q : i < length t). getD-pad 16 t i q)
+    (λ (i : ℕ) (q : i < length t). getD-take (length t) (rate (add s (pad 16 t))) i 0 q)
+    (λ (i : ℕ) (q : i < length t). getD-pad 16 t i q)
 
 -- a last block of ciphertext, decrypted and encrypted
 back-ciphertext : (s : State) (c : List ℕ) → Bytes c → length c < 16 → take (length c) (rate (add s (pad 16 (take (length c) (rate (add s c)))))) ≡ c
@@ -86,8 +87,8 @@ back-ciphertext s c h l =
     let t : List ℕ = take (length c) (rate (add s c)) in
     let long : length t ≡ length c = length-part (add s c) (length c) l in
     back-front s c (pad 16 t) c h (Bytes-pad 16 t (Bytes-take (length c) (rate (add s c)) (Bytes-rate (add s c)))) (omega arith)
-      (λ (i : ℕ) (q : i < length c). getD-pad 16 t i (omega arith) ∙ getD-take (length c) (rate (add s c)) i 0 q)
-      (λ (i : ℕ) (q : i < length c). refl)
+    (λ (i : ℕ) (q : i < length c). getD-pad 16 t i (omega arith) ∙ getD-take (length c) (rate (add s c)) i 0 q)
+    (λ (i : ℕ) (q : i < length c). refl)
 
 -- the words of the rate
 word-rate : (s : State) → Fits s → word (rate s) ≡ s .x0
@@ -209,10 +210,11 @@ only k n a c g t bk bn ba bc e = go (same (finalized k (afterCiphertext (length 
       let m : ℕ = length c / 16 in
       let all = ciphertext-back m s c (begun-fits k n a bk bn ba) bc (cut-16 c) in
       let long : length (decrypted m s c) ≡ length c = length-decrypted m s c (cut-16 c) in
-      record
-        { text = rw long (sym (all .text))
-        ; mark = rw (long, all .state) (sym (same-true (finalized k (afterCiphertext m s c)) g p))
-        }
+      record {
+        text = rw long (sym (all .text));
+        mark = rw (long, all .state) (sym (same-true (finalized k (afterCiphertext m s c)) g p));
+      }
+
   go : (b : Bool) → same (finalized k (afterCiphertext (length c / 16) (begun k n a) c)) g ≡ b → cond b (Some (decrypted (length c / 16) (begun k n a) c)) None ≡ Some t → IsSealing k n a t c g
   go true p q =
       let text : decrypted (length c / 16) (begun k n a) c ≡ t = cc in

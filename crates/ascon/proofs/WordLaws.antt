@@ -102,9 +102,9 @@ Bytes-drop n xs h i = rw getD-drop (h (n + i))
 pub Bytes-take : (n : ℕ) (xs : List ℕ) → Bytes xs → Bytes (take n xs)
 Bytes-take n xs h i =
     ⊎-elim
-      (λ (p : i < n). rw (getD-take n xs i 0 p) (h i))
-      (λ (p : n ≤ i). let past : getD (take n xs) i 0 ≡ 0 = getD-past (take n xs) i 0 (simp length-take (omega arith)) in omega arith)
-      (cases-lt i n)
+    (λ (p : i < n). rw (getD-take n xs i 0 p) (h i))
+    (λ (p : n ≤ i). let past : getD (take n xs) i 0 ≡ 0 = getD-past (take n xs) i 0 (simp length-take (omega arith)) in omega arith)
+    (cases-lt i n)
 
 pub Bytes-++ : (xs ys : List ℕ) → Bytes xs → Bytes ys → Bytes (xs ++ ys)
 Bytes-++ [] ys h k i = k i

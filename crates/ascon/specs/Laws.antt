@@ -24,3 +24,9 @@ Only = (k n a c g t : List ℕ) → Bytes k → Bytes n → Bytes a → Bytes c 
 -- the words that Ascon-CXOF128 absorbs determine customization string and message
 abbrev pub Determines : Type 0
 Determines = (z m z′ m′ : List ℕ) → Bytes z → Bytes m → Bytes z′ → Bytes m′ → length z ≤ 256 → length z′ ≤ 256 → cxofWords z m ≡ cxofWords z′ m′ → (z ≡ z′) × (m ≡ m′)
+
+-- all of them
+pub record Laws : Type 0 where
+  pub opens : Opens
+  pub only : Only
+  pub determines : Determines

@@ -3,11 +3,15 @@
 ghost use mathlib.Core.Path.{_≡_};
 ghost use Prim.Native.Nat.{_/_, _<_};
 ghost use lib.ListN.{length, replicate};
+ghost use mathlib.Core.Bool.{true};
 ghost use Rattle.std.specs.Options.{isSome, valueOr};
+ghost use Rattle.std.specs.declared.option.Option.the-variants.{Some};
+ghost use Rattle.ascon.specs.Laws.{IsSealing};
 ghost use Rattle.ascon.specs.Blocks.{padded};
 ghost use Rattle.ascon.specs.Aead.{rate as rateOf, add as added, replace as replaced, addKeyHigh as keyAddedHigh, addKeyLow as keyAddedLow, initialized, absorbed, withData, separated, begun, encrypted, afterText, decrypted, afterCiphertext, finalized, same, ciphertext, tag as tagOf, opened};
-use crate::blocks::load;
 use crate::blocks::PAD;
+use crate::blocks::are_bytes;
+use crate::blocks::load;
 use crate::blocks::put_last;
 use crate::blocks::store_pair;
 use crate::state::State;
@@ -85,11 +89,7 @@ impl State {
     fn absorb_data(self, ad: &[u8]) -> State
         ensures { λ r. ⌜ r ≡ withData self (now (ad .entry)) ⌝ }
     {
-        if ad.is_empty() {
-            self
-        } else {
-            self.absorb(ad)
-        }
+        if ad.is_empty() { self } else { self.absorb(ad) }
     }
 
     // The last block, which has fewer than sixteen bytes.
@@ -190,7 +190,12 @@ fn begin(key: &[u8; 16], nonce: &[u8; 16], ad: &[u8]) -> State
 pub fn seal(key: &[u8; 16], nonce: &[u8; 16], ad: &[u8], text: &mut [u8]) -> [u8; 16]
     ensures bytes { λ _. ⌜ now (text .exit) ≡ ciphertext (now (key .entry)) (now (nonce .entry)) (now (ad .entry)) (now (text .entry)) ⌝ }
     ensures tag { λ r. ⌜ r ≡ tagOf (now (key .entry)) (now (nonce .entry)) (now (ad .entry)) (now (text .entry)) ⌝ }
+    ensures opens { λ r. ⌜ opened (now (key .entry)) (now (nonce .entry)) (now (ad .entry)) (now (text .exit)) r ≡ Some (now (text .entry)) ⌝ }
 {
+    are_bytes(key);
+    are_bytes(nonce);
+    are_bytes(ad);
+    are_bytes(text);
     begin(key, nonce, ad).encrypt(text).finalize(key)
 }
 
@@ -209,7 +214,12 @@ fn same_tag(a: &[u8; 16], b: &[u8; 16]) -> bool
 pub fn open(key: &[u8; 16], nonce: &[u8; 16], ad: &[u8], text: &mut [u8], tag: &[u8; 16]) -> bool
     ensures test { λ r. ⌜ r ≡ isSome (opened (now (key .entry)) (now (nonce .entry)) (now (ad .entry)) (now (text .entry)) (now (tag .entry))) ⌝ }
     ensures bytes { λ _. ⌜ now (text .exit) ≡ valueOr (opened (now (key .entry)) (now (nonce .entry)) (now (ad .entry)) (now (text .entry)) (now (tag .entry))) (replicate (length (now (text .entry))) 0) ⌝ }
+    ensures only { λ r. ⌜ (r ≡ true → IsSealing (now (key .entry)) (now (nonce .entry)) (now (ad .entry)) (now (text .exit)) (now (text .entry)) (now (tag .entry))) ⌝ }
 {
+    are_bytes(key);
+    are_bytes(nonce);
+    are_bytes(ad);
+    are_bytes(text);
     let expected = begin(key, nonce, ad).decrypt(text).finalize(key);
     let opens = same_tag(&expected, tag);
     if !opens {

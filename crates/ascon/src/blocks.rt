@@ -3,7 +3,14 @@ ghost use mathlib.Core.Path.{_≡_};
 ghost use Prim.Native.Nat.{_+_, _-_, _<_, _≤_};
 ghost use mathlib.Core.List.{_∷_, _++_};
 ghost use lib.ListN.{length, drop, replicate};
-ghost use Rattle.ascon.specs.Blocks.{word, bytes};
+ghost use Rattle.ascon.specs.Blocks.{Bytes, word, bytes};
+
+// Does nothing, and says of a slice's bytes for the theorems that each is below 256.
+pub(crate) fn are_bytes(b: &[u8])
+    ensures { λ _. ⌜ Bytes (now (b .entry)) ⌝ }
+{
+    let _ = b.is_empty();
+}
 
 // The word of the eight bytes from `at` on.
 pub(crate) fn load(b: &[u8], at: usize) -> u64

@@ -14,6 +14,7 @@ use crate::state::State;
 
 // The parameters of Ascon-Hash256 and of Ascon-CXOF128.
 const HASH_IV: u64 = 0x0000_0801_00cc_0002;
+
 const CXOF_IV: u64 = 0x0000_0800_00cc_0004;
 
 // The longest customization string, in bytes.
@@ -73,8 +74,7 @@ fn initial(iv: u64) -> State
         x2: 0,
         x3: 0,
         x4: 0,
-    }
-    .p12()
+    }.p12()
 }
 
 // Ascon-Hash256 of a message.

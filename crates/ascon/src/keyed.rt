@@ -17,6 +17,7 @@ const AFTER_MARK_STRING: State = State {
     x3: 0x36ec_904e_0872_b8be,
     x4: 0x3306_3abd_876d_3ddb,
 };
+
 const AFTER_KEY_STRING: State = State {
     x0: 0xdd07_06d7_e908_c5f3,
     x1: 0x5bba_c448_491d_8483,

@@ -6,6 +6,7 @@ mod keyed;
 mod permutation;
 mod purpose;
 mod state;
+mod theorems;
 
 pub use aead::open;
 pub use aead::seal;
@@ -16,3 +17,4 @@ pub use keyed::derive;
 pub use keyed::mark;
 pub use purpose::Purpose;
 pub use state::State;
+pub use theorems::laws;

@@ -18,5 +18,5 @@ returns c =
     let a : take (c .loop-i .i) (c .args .a .now) ≡ c .args .a .now = take-all (c .loop-i .i) (c .args .a .now) (omega arith) in
     let b : take (c .loop-i .i) (c .args .b .now) ≡ c .args .b .now = take-all (c .loop-i .i) (c .args .b .now) (omega arith) in
     same-is (eqb (c .loop-i .difference) 0) (c .args .a .now) (c .args .b .now)
-      (λ t. sym a ∙ (c .loop-i .inv .equal (eqb-true (c .loop-i .difference) 0 t) ∙ b))
-      (λ e. eq-eqb (c .loop-i .difference) 0 (c .loop-i .inv .nought (a ∙ (e ∙ sym b))))
+    (λ t. sym a ∙ (c .loop-i .inv .equal (eqb-true (c .loop-i .difference) 0 t) ∙ b))
+    (λ e. eq-eqb (c .loop-i .difference) 0 (c .loop-i .inv .nought (a ∙ (e ∙ sym b))))
