@@ -30,8 +30,9 @@ pad-behind : (r : ℕ) (m : List ℕ) (j : ℕ) → length m < j → getD (pad r
 unfolding pad
 pad-behind r m j h =
     let e : j - length m ≡ suc (j - length m - 1) = omega arith in
-    getD-append-right m (1 ∷ replicate (r - 1 - length m) 0) (length m) j 0 refl (omega arith)
-    ∙ (ap (λ n. getD (1 ∷ replicate (r - 1 - length m) 0) n 0) e ∙ getD-noughts [] (r - 1 - length m) (j - length m - 1))
+    let behind : getD (m ++ 1 ∷ replicate (r - 1 - length m) 0) j 0 ≡ getD (1 ∷ replicate (r - 1 - length m) 0) (j - length m) 0 = getD-append-right m (1 ∷ replicate (r - 1 - length m) 0) (length m) j 0 refl (omega arith) in
+    let nought : getD (1 ∷ replicate (r - 1 - length m) 0) (suc (j - length m - 1)) 0 ≡ 0 = getD-noughts [] (r - 1 - length m) (j - length m - 1) in
+    rw (behind, e) nought
 
 pad-front : (r : ℕ) (m : List ℕ) → take (length m) (pad r m) ≡ m
 unfolding pad

@@ -1,7 +1,8 @@
 // The permutations p[12] and p[8]: thin layers by value, each equal to its definition.
 ghost use mathlib.Core.Path.{_≡_};
-ghost use Prim.Native.Nat.{_<_};
-ghost use Rattle.ascon.specs.Permutation.{complement, addConstant as constantAdded, mixIn as mixedIn, chiWord as chiOf, chi as chiApplied, mixOut as mixedOut, spread as spreadOf, diffuse as diffused, round as rounded, p12 as permuted12, p8 as permuted8};
+ghost use Prim.Native.Nat.{_<_, _≤_};
+ghost use lib.ListN.{drop};
+ghost use Rattle.ascon.specs.Permutation.{complement, addConstant as constantAdded, mixIn as mixedIn, chiWord as chiOf, chi as chiApplied, mixOut as mixedOut, spread as spreadOf, diffuse as diffused, round as rounded, rounds as roundsOf, constants, p12 as permuted12, p8 as permuted8};
 use crate::state::State;
 
 // The constants of the twelve rounds; p[8] takes the last eight.
@@ -98,26 +99,28 @@ impl State {
         self.add_constant(c).mix_in().chi().mix_out().diffuse()
     }
 
+    // The rounds from the one with the given number on: a loop, so that it is small enough to be
+    // compiled into its callers, where the state stays in registers.
+    fn rounds_from(self, first: usize) -> State
+        requires { ⌜ first ≤ 12 ⌝ }
+        ensures { λ r. ⌜ r ≡ roundsOf (drop first constants) self ⌝ }
+    {
+        let mut s = self;
+        for i in first..12 {
+            s = s.round(ROUND_CONSTANTS[i]);
+        }
+        s
+    }
+
     pub(crate) fn p8(self) -> State
         ensures { λ r. ⌜ r ≡ permuted8 self ⌝ }
     {
-        self.round(ROUND_CONSTANTS[4])
-            .round(ROUND_CONSTANTS[5])
-            .round(ROUND_CONSTANTS[6])
-            .round(ROUND_CONSTANTS[7])
-            .round(ROUND_CONSTANTS[8])
-            .round(ROUND_CONSTANTS[9])
-            .round(ROUND_CONSTANTS[10])
-            .round(ROUND_CONSTANTS[11])
+        self.rounds_from(4)
     }
 
     pub fn p12(self) -> State
         ensures { λ r. ⌜ r ≡ permuted12 self ⌝ }
     {
-        self.round(ROUND_CONSTANTS[0])
-            .round(ROUND_CONSTANTS[1])
-            .round(ROUND_CONSTANTS[2])
-            .round(ROUND_CONSTANTS[3])
-            .p8()
+        self.rounds_from(0)
     }
 }

@@ -1,6 +1,6 @@
-use Rattle.ascon.specs.Permutation.{p12, p8, rounds}
+use Rattle.ascon.specs.Permutation.{p12}
 use Rattle.ascon.proofs.state.State.p12.Needs as need
 
 pub returns : need.returns
-unfolding p12 p8 rounds
-returns c = cc
+unfolding p12
+returns c = c .rounds-from .ensures

@@ -1,6 +1,6 @@
-use Rattle.ascon.specs.Permutation.{p8, rounds}
+use Rattle.ascon.specs.Permutation.{p8}
 use Rattle.ascon.proofs.state.State.p8.Needs as need
 
 pub returns : need.returns
-unfolding p8 rounds
-returns c = cc
+unfolding p8
+returns c = c .rounds-from .ensures
