@@ -14,7 +14,7 @@ use Rattle.std.specs.Options.{isSome, valueOr}
 use Rattle.std.specs.declared.option.Option.the-variants.{Some, None}
 use Rattle.ascon.specs.declared.state.State.{State}
 use Rattle.ascon.specs.Permutation.{p8}
-use Rattle.ascon.specs.Blocks.{bytes, pad, padded}
+use Rattle.ascon.specs.Blocks.{bytes, word, pad, padded}
 use Rattle.ascon.specs.Aead.{rate, add, replace, absorbed, withData, encrypted, afterText, decrypted, afterCiphertext, same, begun, finalized, opened}
 use Rattle.ascon.proofs.BlockLaws.{whole-more, whole-none, length-written, behind-written, block-written, padded-more, padded-last, word-noughts}
 
@@ -80,9 +80,13 @@ same-is t xs ys f g = go t (same xs ys) refl refl where
   go false true p q = absurd (both-ways t p (g (same-true xs ys q)))
   go false false p q = p ∙ sym q
 
--- no difference of two bytes, and none before
+-- nothing in either of two
 pub or-nought : (a b : ℕ) → bitOr a b ≡ 0 → (a ≡ 0) × (b ≡ 0)
-or-nought a b h = let sum = or-add-and a b in let l = and-le-l a b in let r = and-le-r a b in (omega arith, omega arith)
+or-nought a b h =
+    let sum = or-add-and a b in
+    let l = and-le-l a b in
+    let r = and-le-r a b in
+    (omega arith, omega arith)
 
 pub xor-nought : (a b : ℕ) → bitXor a b ≡ 0 → a ≡ b
 xor-nought a b h =
@@ -91,29 +95,6 @@ xor-nought a b h =
     let three : bitXor a 0 ≡ a = xor-zero-r a in
     let four : bitXor 0 b ≡ b = xor-zero-l b in
     cc
-
--- the difference so far is nought exactly if the bytes so far are equal
-pub record Differs (d : ℕ) (xs ys : List ℕ) : Type 0 where
-  pub equal : d ≡ 0 → xs ≡ ys
-  pub nought : xs ≡ ys → d ≡ 0
-
-pub differs-more : (d i : ℕ) (xs ys : List ℕ) → i < length xs → i < length ys → Differs d (take i xs) (take i ys) → Differs (bitOr d (bitXor (getD xs i 0) (getD ys i 0))) (take (i + 1) xs) (take (i + 1) ys)
-differs-more d i xs ys p q h =
-    let more-xs = take-more xs i 0 p in
-    let more-ys = take-more ys i 0 q in
-    record {
-      equal = λ e.
-          let parts = or-nought d (bitXor (getD xs i 0) (getD ys i 0)) e in
-          let before = h .equal (parts .0) in
-          let here = xor-nought (getD xs i 0) (getD ys i 0) (parts .1) in
-          cc;
-      nought = λ e.
-          let parts = same-from-push (take i xs) (take i ys) (getD xs i 0) (getD ys i 0) (sym more-xs ∙ (e ∙ more-ys)) in
-          let before : d ≡ 0 = h .nought (parts .0) in
-          let here : bitXor (getD xs i 0) (getD ys i 0) ≡ 0 = ap (bitXor (getD xs i 0)) (sym (parts .1)) ∙ xor-self (getD xs i 0) in
-          let none : bitOr 0 0 ≡ 0 = refl in
-          cc;
-    }
 
 -- a last block of ciphertext, filled up with noughts
 pub add-noughts : (s : State) (c : List ℕ) (k : ℕ) → add s (c ++ 0 ∷ replicate k 0) ≡ add s c
@@ -178,7 +159,7 @@ decrypt-step s₀ t₀ s cur at a r s′ out k left size fits e f o p =
     left-more decrypted afterCiphertext s₀ t₀ s cur at left s′ out k size fits whole (cc) (cc)
 
 -- what opening comes to, by the tag that was worked out
-module _ (k n a c g expected : List ℕ) (s f : State) (b : Bool) (start : s ≡ begun k n a) (after : f ≡ afterCiphertext (length c / 16) s c) (worked : expected ≡ finalized k f) (compared : b ≡ same expected g) where
+module _ (k n a c g : List ℕ) (s f : State) (b : Bool) (start : s ≡ begun k n a) (after : f ≡ afterCiphertext (length c / 16) s c) (compared : b ≡ same (finalized k f) g) where
   opened-by : opened k n a c g ≡ cond b (Some (decrypted (length c / 16) s c)) None
   unfolding opened
   opened-by = cc
@@ -192,3 +173,19 @@ module _ (k n a c g expected : List ℕ) (s f : State) (b : Bool) (start : s ≡
   refuses out t o =
       let e : opened k n a c g ≡ None = opened-by ∙ cond-false b (Some (decrypted (length c / 16) s c)) None t in
       (t ∙ sym (ap isSome e), o ∙ sym (ap (λ x. valueOr x (replicate (length c) 0)) e))
+
+-- a last block of padding alone
+pub add-padding : (s : State) → add s (pad 16 []) ≡ record { x0 = bitXor (s .x0) 1; x1 = s .x1; x2 = s .x2; x3 = s .x3; x4 = s .x4 }
+unfolding add pad word
+add-padding s = let same-x1 : bitXor (s .x1) 0 ≡ s .x1 = xor-zero-r (s .x1) in rw same-x1
+
+-- an empty last block
+pub encrypt-none : (s : State) (t : List ℕ) → length t ≡ 0 → (t ≡ encrypted 0 s t) × (add s (pad 16 []) ≡ afterText 0 s t)
+unfolding encrypted afterText
+encrypt-none s [] h = (refl, refl)
+encrypt-none s (x ∷ t) h = let z : ⊥ = omega arith in absurd z
+
+pub decrypt-none : (s : State) (c : List ℕ) → length c ≡ 0 → (c ≡ decrypted 0 s c) × (add s (pad 16 []) ≡ afterCiphertext 0 s c)
+unfolding decrypted afterCiphertext
+decrypt-none s [] h = (refl, refl)
+decrypt-none s (x ∷ c) h = let z : ⊥ = omega arith in absurd z

@@ -3,6 +3,7 @@ pub mod AeadLaws
 pub mod HashLaws
 pub mod Customized
 pub mod WordLaws
+pub mod TagLaws
 pub mod StateLaws
 pub mod OpenLaws
 pub mod CxofLaws

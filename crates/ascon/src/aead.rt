@@ -7,10 +7,13 @@ ghost use mathlib.Core.Bool.{true};
 ghost use Rattle.std.specs.Options.{isSome, valueOr};
 ghost use Rattle.std.specs.declared.option.Option.the-variants.{Some};
 ghost use Rattle.ascon.specs.Laws.{IsSealing};
-ghost use Rattle.ascon.specs.Blocks.{padded};
+ghost use Rattle.ascon.specs.Blocks.{pad, padded};
+ghost use mathlib.Core.List.{[]};
+ghost use Rattle.ascon.specs.Permutation.{p12 as permuted12};
 ghost use Rattle.ascon.specs.Aead.{rate as rateOf, add as added, replace as replaced, addKeyHigh as keyAddedHigh, addKeyLow as keyAddedLow, initialized, absorbed, withData, separated, begun, encrypted, afterText, decrypted, afterCiphertext, finalized, same, ciphertext, tag as tagOf, opened};
 use crate::blocks::PAD;
 use crate::blocks::are_bytes;
+use crate::blocks::is_pair;
 use crate::blocks::load;
 use crate::blocks::put_last;
 use crate::blocks::store_pair;
@@ -92,12 +95,25 @@ impl State {
         if ad.is_empty() { self } else { self.absorb(ad) }
     }
 
+    // A last block of padding alone.
+    fn add_padding(self) -> State
+        ensures { λ r. ⌜ r ≡ added self (pad 16 []) ⌝ }
+    {
+        State {
+            x0: self.x0 ^ PAD as u64,
+            ..self
+        }
+    }
+
     // The last block, which has fewer than sixteen bytes.
     fn encrypt_last(self, text: &mut [u8]) -> State
         requires { ⌜ length (now text) < 16 ⌝ }
         ensures bytes { λ _. ⌜ now (text .exit) ≡ encrypted 0 self (now (text .entry)) ⌝ }
         ensures state { λ r. ⌜ r ≡ afterText 0 self (now (text .entry)) ⌝ }
     {
+        if text.is_empty() {
+            return self.add_padding();
+        }
         let mut block = [0; 16];
         put_last(&mut block, text, PAD);
         let s = self.add(&block);
@@ -128,6 +144,9 @@ impl State {
         ensures bytes { λ _. ⌜ now (text .exit) ≡ decrypted 0 self (now (text .entry)) ⌝ }
         ensures state { λ r. ⌜ r ≡ afterCiphertext 0 self (now (text .entry)) ⌝ }
     {
+        if text.is_empty() {
+            return self.add_padding();
+        }
         let mut block = [0; 16];
         put_last(&mut block, text, 0);
         self.add(&block).put_rate(&mut block);
@@ -153,13 +172,28 @@ impl State {
         s.decrypt_last(&mut text[at..])
     }
 
+    // The state whose x3 and x4 are the tag.
+    fn finish(self, key: &[u8; 16]) -> State
+        ensures { λ r. ⌜ r ≡ keyAddedLow (now (key .entry)) (permuted12 (keyAddedHigh (now (key .entry)) self)) ⌝ }
+    {
+        self.add_key_high(key).p12().add_key_low(key)
+    }
+
     fn finalize(self, key: &[u8; 16]) -> [u8; 16]
         ensures { λ r. ⌜ r ≡ finalized (now (key .entry)) self ⌝ }
     {
-        let s = self.add_key_high(key).p12().add_key_low(key);
+        let s = self.finish(key);
         let mut tag = [0; 16];
         store_pair(&mut tag, s.x3, s.x4);
         tag
+    }
+
+    // Whether `tag` is the tag; the one that would be right is never written to memory.
+    fn has_tag(self, key: &[u8; 16], tag: &[u8; 16]) -> bool
+        ensures { λ r. ⌜ r ≡ same (finalized (now (key .entry)) self) (now (tag .entry)) ⌝ }
+    {
+        let s = self.finish(key);
+        is_pair(tag, s.x3, s.x4)
     }
 }
 
@@ -199,17 +233,6 @@ pub fn seal(key: &[u8; 16], nonce: &[u8; 16], ad: &[u8], text: &mut [u8]) -> [u8
     begin(key, nonce, ad).encrypt(text).finalize(key)
 }
 
-// Whether two tags are equal: all sixteen bytes are looked at, whatever they are.
-fn same_tag(a: &[u8; 16], b: &[u8; 16]) -> bool
-    ensures { λ r. ⌜ r ≡ same (now (a .entry)) (now (b .entry)) ⌝ }
-{
-    let mut difference = 0;
-    for i in 0..16 {
-        difference |= a[i] ^ b[i];
-    }
-    difference == 0
-}
-
 // Opens `text` in place: whether it opens; where it doesn't, noughts are left.
 pub fn open(key: &[u8; 16], nonce: &[u8; 16], ad: &[u8], text: &mut [u8], tag: &[u8; 16]) -> bool
     ensures test { λ r. ⌜ r ≡ isSome (opened (now (key .entry)) (now (nonce .entry)) (now (ad .entry)) (now (text .entry)) (now (tag .entry))) ⌝ }
@@ -220,8 +243,7 @@ pub fn open(key: &[u8; 16], nonce: &[u8; 16], ad: &[u8], text: &mut [u8], tag: &
     are_bytes(nonce);
     are_bytes(ad);
     are_bytes(text);
-    let expected = begin(key, nonce, ad).decrypt(text).finalize(key);
-    let opens = same_tag(&expected, tag);
+    let opens = begin(key, nonce, ad).decrypt(text).has_tag(key, tag);
     if !opens {
         text.fill(0);
     }

@@ -3,6 +3,7 @@ ghost use mathlib.Core.Path.{_≡_};
 ghost use Prim.Native.Nat.{_+_, _-_, _<_, _≤_};
 ghost use mathlib.Core.List.{_∷_, _++_};
 ghost use lib.ListN.{length, drop, replicate};
+ghost use Rattle.ascon.specs.Aead.{same};
 ghost use Rattle.ascon.specs.Blocks.{Bytes, word, bytes};
 
 // Does nothing, and says of a slice's bytes for the theorems that each is below 256.
@@ -36,6 +37,16 @@ pub(crate) fn store_pair(out: &mut [u8], low: u64, high: u64)
 {
     out[0..8].copy_from_slice(&low.to_le_bytes());
     out[8..16].copy_from_slice(&high.to_le_bytes());
+}
+
+// Whether sixteen bytes are those of two words: all of them are looked at, whatever they are, with
+// no early exit and no branch.
+pub(crate) fn is_pair(b: &[u8; 16], low: u64, high: u64) -> bool
+    ensures { λ r. ⌜ r ≡ same (bytes low ++ bytes high) (now (b .entry)) ⌝ }
+{
+    are_bytes(b);
+    let difference = (low ^ load(b, 0)) | (high ^ load(b, 8));
+    difference == 0
 }
 
 // The byte that begins the padding of a last block.

@@ -64,8 +64,7 @@ pub extern "C" fn ascon_p12(words: &mut Words)
         x2: words.x2,
         x3: words.x3,
         x4: words.x4,
-    }
-    .p12();
+    }.p12();
     words.x0 = s.x0;
     words.x1 = s.x1;
     words.x2 = s.x2;
