@@ -11,6 +11,7 @@ use lib.ListN.{length, getD, take, drop, replicate}
 use Rattle.std.proofs.shelf.Lists.{length-append, length-take, take-more, take-rest, length-drop, drop-all, append-nil, same-from-push}
 use Rattle.std.proofs.shelf.Tests.{both-ways, eqb-true, eq-eqb, cond-true, cond-false}
 use Rattle.std.specs.Options.{isSome, valueOr}
+use Rattle.std.specs.declared.option.Option.{Option}
 use Rattle.std.specs.declared.option.Option.the-variants.{Some, None}
 use Rattle.ascon.specs.declared.state.State.{State}
 use Rattle.ascon.specs.Permutation.{p8}
@@ -158,25 +159,33 @@ decrypt-step s₀ t₀ s cur at a r s′ out k left size fits e f o p =
     let step′ = afterCiphertext-more s (drop at cur) here in
     left-more decrypted afterCiphertext s₀ t₀ s cur at left s′ out k size fits whole (cc) (cc)
 
+-- what a test and a buffer say of an opening
+pub record OpenedAs (o : Option (List ℕ)) (b : Bool) (out noughts : List ℕ) : Type 0 where
+  pub test : b ≡ isSome o
+  pub bytes : out ≡ valueOr o noughts
+  pub some : b ≡ true → o ≡ Some out
+
 -- what opening comes to, by the tag that was worked out
 module _ (k n a c g : List ℕ) (s f : State) (b : Bool) (start : s ≡ begun k n a) (after : f ≡ afterCiphertext (length c / 16) s c) (compared : b ≡ same (finalized k f) g) where
   opened-by : opened k n a c g ≡ cond b (Some (decrypted (length c / 16) s c)) None
   unfolding opened
   opened-by = cc
 
-  pub opens : (out : List ℕ) → b ≡ true → out ≡ decrypted (length c / 16) s c → (b ≡ isSome (opened k n a c g)) × (out ≡ valueOr (opened k n a c g) (replicate (length c) 0)) × (opened k n a c g ≡ Some out)
-  opens out t o =
-      let e : opened k n a c g ≡ Some out = opened-by ∙ (cond-true b (Some (decrypted (length c / 16) s c)) None t ∙ ap Some (sym o)) in
-      (t ∙ sym (ap isSome e), sym (ap (λ x. valueOr x (replicate (length c) 0)) e), e)
-
-  pub refuses : (out : List ℕ) → b ≡ false → out ≡ replicate (length c) 0 → (b ≡ isSome (opened k n a c g)) × (out ≡ valueOr (opened k n a c g) (replicate (length c) 0))
-  refuses out t o =
-      let e : opened k n a c g ≡ None = opened-by ∙ cond-false b (Some (decrypted (length c / 16) s c)) None t in
-      (t ∙ sym (ap isSome e), o ∙ sym (ap (λ x. valueOr x (replicate (length c) 0)) e))
+  pub opened-as : (text out : List ℕ) → text ≡ decrypted (length c / 16) s c → length text ≡ length c → out ≡ cond b text (replicate (length text) 0) → OpenedAs (opened k n a c g) b out (replicate (length c) 0)
+  opened-as text out d l o = go b refl where
+    go : (x : Bool) → b ≡ x → OpenedAs (opened k n a c g) b out (replicate (length c) 0)
+    go true t =
+        let same-out : out ≡ text = o ∙ cond-true b text (replicate (length text) 0) t in
+        let e : opened k n a c g ≡ Some out = opened-by ∙ (cond-true b (Some (decrypted (length c / 16) s c)) None t ∙ ap Some (sym (same-out ∙ d))) in
+        record { test = t ∙ sym (ap isSome e); bytes = sym (ap (λ x. valueOr x (replicate (length c) 0)) e); some = λ _. e }
+    go false t =
+        let noughts : out ≡ replicate (length c) 0 = o ∙ (cond-false b text (replicate (length text) 0) t ∙ ap (λ m. replicate m 0) l) in
+        let e : opened k n a c g ≡ None = opened-by ∙ cond-false b (Some (decrypted (length c / 16) s c)) None t in
+        record { test = t ∙ sym (ap isSome e); bytes = noughts ∙ sym (ap (λ x. valueOr x (replicate (length c) 0)) e); some = λ u. absurd (both-ways b t u) }
 
 -- a last block of padding alone
 pub add-padding : (s : State) → add s (pad 16 []) ≡ record { x0 = bitXor (s .x0) 1; x1 = s .x1; x2 = s .x2; x3 = s .x3; x4 = s .x4 }
-unfolding add pad word
+unfolding add word
 add-padding s = let same-x1 : bitXor (s .x1) 0 ≡ s .x1 = xor-zero-r (s .x1) in rw same-x1
 
 -- an empty last block

@@ -23,11 +23,9 @@ word-determines a b h k l m e =
 
 -- the byte that begins the padding, and the noughts behind it
 pad-mark : (r : ℕ) (m : List ℕ) → getD (pad r m) (length m) 0 ≡ 1
-unfolding pad
 pad-mark r m = getD-at m 1 (replicate (r - 1 - length m) 0) 0 (length m) refl
 
 pad-behind : (r : ℕ) (m : List ℕ) (j : ℕ) → length m < j → getD (pad r m) j 0 ≡ 0
-unfolding pad
 pad-behind r m j h =
     let e : j - length m ≡ suc (j - length m - 1) = omega arith in
     let behind : getD (m ++ 1 ∷ replicate (r - 1 - length m) 0) j 0 ≡ getD (1 ∷ replicate (r - 1 - length m) 0) (j - length m) 0 = getD-append-right m (1 ∷ replicate (r - 1 - length m) 0) (length m) j 0 refl (omega arith) in
@@ -35,7 +33,6 @@ pad-behind r m j h =
     rw (behind, e) nought
 
 pad-front : (r : ℕ) (m : List ℕ) → take (length m) (pad r m) ≡ m
-unfolding pad
 pad-front r m = take-at m (1 ∷ replicate (r - 1 - length m) 0) (length m) refl
 
 -- a message is determined by what padding makes of it

@@ -165,7 +165,7 @@ ciphertext-back : (n : ℕ) (s : State) (c : List ℕ) → Fits s → Bytes c �
 unfolding encrypted decrypted afterText afterCiphertext
 ciphertext-back zero s c f h w =
     let long : length (take (length c) (rate (add s c))) ≡ length c = length-part (add s c) (length c) w in
-    record { text = rw long (back-ciphertext s c h w); state = refl }
+    record { text = ap (λ m. take m (rate (add s (pad 16 (take (length c) (rate (add s c))))))) long ∙ back-ciphertext s c h w; state = refl }
 ciphertext-back (suc n) s c f h w =
     let a : State = add s (take 16 c) in
     let r : State = replace s (take 16 c) in

@@ -20,7 +20,6 @@ pub record Fits (s : State) : Type 0 where
   pub x4 : s .x4 < 2 ^ 64
 
 complement-lt : (x : ℕ) → complement x < 2 ^ 64
-unfolding complement
 complement-lt x = omega arith
 
 rotated-lt : (x k : ℕ) → x < 2 ^ 64 → rotated x k < 2 ^ 64
@@ -32,27 +31,21 @@ unfolding spread
 spread-lt x a b h = xor-lt 64 (bitXor x (rotated x a)) (rotated x b) (xor-lt 64 x (rotated x a) h (rotated-lt x a h)) (rotated-lt x b h)
 
 chiWord-lt : (x y z : ℕ) → x < 2 ^ 64 → z < 2 ^ 64 → chiWord x y z < 2 ^ 64
-unfolding chiWord
 chiWord-lt x y z h k = xor-lt 64 x (bitAnd (complement y) z) h (and-lt 64 (complement y) z (complement-lt y) k)
 
 addConstant-fits : (c : ℕ) (s : State) → c < 2 ^ 64 → Fits s → Fits (addConstant c s)
-unfolding addConstant
 addConstant-fits c s k h = record { x0 = h .x0; x1 = h .x1; x2 = xor-lt 64 (s .x2) c (h .x2) k; x3 = h .x3; x4 = h .x4 }
 
 mixIn-fits : (s : State) → Fits s → Fits (mixIn s)
-unfolding mixIn
 mixIn-fits s h = record { x0 = xor-lt 64 (s .x0) (s .x4) (h .x0) (h .x4); x1 = h .x1; x2 = xor-lt 64 (s .x2) (s .x1) (h .x2) (h .x1); x3 = h .x3; x4 = xor-lt 64 (s .x4) (s .x3) (h .x4) (h .x3) }
 
 chi-fits : (s : State) → Fits s → Fits (chi s)
-unfolding chi
 chi-fits s h = record { x0 = chiWord-lt (s .x0) (s .x1) (s .x2) (h .x0) (h .x2); x1 = chiWord-lt (s .x1) (s .x2) (s .x3) (h .x1) (h .x3); x2 = chiWord-lt (s .x2) (s .x3) (s .x4) (h .x2) (h .x4); x3 = chiWord-lt (s .x3) (s .x4) (s .x0) (h .x3) (h .x0); x4 = chiWord-lt (s .x4) (s .x0) (s .x1) (h .x4) (h .x1) }
 
 mixOut-fits : (s : State) → Fits s → Fits (mixOut s)
-unfolding mixOut
 mixOut-fits s h = record { x0 = xor-lt 64 (s .x0) (s .x4) (h .x0) (h .x4); x1 = xor-lt 64 (s .x1) (s .x0) (h .x1) (h .x0); x2 = complement-lt (s .x2); x3 = xor-lt 64 (s .x3) (s .x2) (h .x3) (h .x2); x4 = h .x4 }
 
 diffuse-fits : (s : State) → Fits s → Fits (diffuse s)
-unfolding diffuse
 diffuse-fits s h = record { x0 = spread-lt (s .x0) 19 28 (h .x0); x1 = spread-lt (s .x1) 61 39 (h .x1); x2 = spread-lt (s .x2) 1 6 (h .x2); x3 = spread-lt (s .x3) 10 17 (h .x3); x4 = spread-lt (s .x4) 7 41 (h .x4) }
 
 round-fits : (c : ℕ) (s : State) → c < 2 ^ 64 → Fits s → Fits (round c s)
@@ -102,7 +95,7 @@ withData-fits s [] b h = h
 withData-fits s (x ∷ a) b h = absorbed-fits (length (x ∷ a) / 16) s (x ∷ a) b h
 
 pub begun-fits : (k n a : List ℕ) → Bytes k → Bytes n → Bytes a → Fits (begun k n a)
-unfolding begun separated
+unfolding begun
 begun-fits k n a b c d =
     let h : Fits (withData (initialized k n) a) = withData-fits (initialized k n) a d (initialized-fits k n b c) in
     record { x0 = h .x0; x1 = h .x1; x2 = h .x2; x3 = h .x3; x4 = xor-lt 64 (withData (initialized k n) a .x4) 0x8000000000000000 (h .x4) (lit< tt) }

@@ -112,7 +112,6 @@ Bytes-++ (x ∷ xs) ys h k zero = h 0
 Bytes-++ (x ∷ xs) ys h k (suc i) = Bytes-++ xs ys (λ (j : ℕ). h (suc j)) k i
 
 pub Bytes-pad : (r : ℕ) (m : List ℕ) → Bytes m → Bytes (pad r m)
-unfolding pad
 Bytes-pad r m h = Bytes-++ m (1 ∷ replicate (r - 1 - length m) 0) h tail where
   tail : Bytes (1 ∷ replicate (r - 1 - length m) 0)
   tail zero = omega arith
@@ -120,9 +119,7 @@ Bytes-pad r m h = Bytes-++ m (1 ∷ replicate (r - 1 - length m) 0) h tail where
 
 -- the padding begins behind the message
 pub getD-pad : (r : ℕ) (m : List ℕ) (i : ℕ) → i < length m → getD (pad r m) i 0 ≡ getD m i 0
-unfolding pad
 getD-pad r m i h = getD-append-left m (1 ∷ replicate (r - 1 - length m) 0) 0 i h
 
 pub length-pad : (r : ℕ) (m : List ℕ) → length m < r → length (pad r m) ≡ r
-unfolding pad
 length-pad r m h = let e = length-replicate {A = ℕ} (r - 1 - length m) 0 in simp length-append (omega arith)

@@ -46,7 +46,7 @@ withData s [] = s
 withData s (x ∷ a) = absorbed s (padded 16 (x ∷ a))
 
 -- the bit that parts associated data from text
-unfoldable pub separated : State → State
+abbrev pub separated : State → State
 separated s = record { x0 = s .x0; x1 = s .x1; x2 = s .x2; x3 = s .x3; x4 = bitXor (s .x4) 0x8000000000000000 }
 
 -- the state before the text

@@ -16,7 +16,7 @@ unfoldable pub bytes : ℕ → List ℕ
 bytes x = (x % 256) ∷ (x / 256 % 256) ∷ (x / 65536 % 256) ∷ (x / 16777216 % 256) ∷ (x / 4294967296 % 256) ∷ (x / 1099511627776 % 256) ∷ (x / 281474976710656 % 256) ∷ (x / 72057594037927936 % 256) ∷ []
 
 -- fewer than r bytes, padded to r: a byte 01, then noughts
-unfoldable pub pad : ℕ → List ℕ → List ℕ
+abbrev pub pad : ℕ → List ℕ → List ℕ
 pad r m = m ++ 1 ∷ replicate (r - 1 - length m) 0
 
 -- n whole blocks of r bytes, then what is left, padded

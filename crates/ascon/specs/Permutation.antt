@@ -10,27 +10,27 @@ unfoldable pub rotated : ℕ → ℕ → ℕ
 rotated x k = bitOr (x / 2 ^ k) (x * 2 ^ (64 - k) % 2 ^ 64)
 
 -- a 64-bit word with every bit turned
-unfoldable pub complement : ℕ → ℕ
+abbrev pub complement : ℕ → ℕ
 complement x = 2 ^ 64 - 1 - x
 
 -- the constant layer: the round's constant goes into x2
-unfoldable pub addConstant : ℕ → State → State
+abbrev pub addConstant : ℕ → State → State
 addConstant c s = record { x0 = s .x0; x1 = s .x1; x2 = bitXor (s .x2) c; x3 = s .x3; x4 = s .x4 }
 
 -- the substitution layer, first part
-unfoldable pub mixIn : State → State
+abbrev pub mixIn : State → State
 mixIn s = record { x0 = bitXor (s .x0) (s .x4); x1 = s .x1; x2 = bitXor (s .x2) (s .x1); x3 = s .x3; x4 = bitXor (s .x4) (s .x3) }
 
 -- one word of the nonlinear part: x with (not y) and z
-unfoldable pub chiWord : ℕ → ℕ → ℕ → ℕ
+abbrev pub chiWord : ℕ → ℕ → ℕ → ℕ
 chiWord x y z = bitXor x (bitAnd (complement y) z)
 
 -- the substitution layer, nonlinear part: all five words at once
-unfoldable pub chi : State → State
+abbrev pub chi : State → State
 chi s = record { x0 = chiWord (s .x0) (s .x1) (s .x2); x1 = chiWord (s .x1) (s .x2) (s .x3); x2 = chiWord (s .x2) (s .x3) (s .x4); x3 = chiWord (s .x3) (s .x4) (s .x0); x4 = chiWord (s .x4) (s .x0) (s .x1) }
 
 -- the substitution layer, last part
-unfoldable pub mixOut : State → State
+abbrev pub mixOut : State → State
 mixOut s = record { x0 = bitXor (s .x0) (s .x4); x1 = bitXor (s .x1) (s .x0); x2 = complement (s .x2); x3 = bitXor (s .x3) (s .x2); x4 = s .x4 }
 
 -- one word of the linear layer: x with itself rotated by a and by b
@@ -38,7 +38,7 @@ unfoldable pub spread : ℕ → ℕ → ℕ → ℕ
 spread x a b = bitXor (bitXor x (rotated x a)) (rotated x b)
 
 -- the linear layer
-unfoldable pub diffuse : State → State
+abbrev pub diffuse : State → State
 diffuse s = record { x0 = spread (s .x0) 19 28; x1 = spread (s .x1) 61 39; x2 = spread (s .x2) 1 6; x3 = spread (s .x3) 10 17; x4 = spread (s .x4) 7 41 }
 
 -- one round with constant c

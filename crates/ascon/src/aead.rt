@@ -11,11 +11,12 @@ ghost use Rattle.ascon.specs.Blocks.{pad, padded};
 ghost use mathlib.Core.List.{[]};
 ghost use Rattle.ascon.specs.Permutation.{p12 as permuted12};
 ghost use Rattle.ascon.specs.Aead.{rate as rateOf, add as added, replace as replaced, addKeyHigh as keyAddedHigh, addKeyLow as keyAddedLow, initialized, absorbed, withData, separated, begun, encrypted, afterText, decrypted, afterCiphertext, finalized, same, ciphertext, tag as tagOf, opened};
-use crate::blocks::PAD;
 use crate::blocks::are_bytes;
 use crate::blocks::is_pair;
+use crate::blocks::keep_if;
 use crate::blocks::load;
 use crate::blocks::put_last;
+use crate::blocks::put_padded;
 use crate::blocks::store_pair;
 use crate::state::State;
 
@@ -85,7 +86,7 @@ impl State {
             rest = &rest[16..];
         }
         let mut block = [0; 16];
-        put_last(&mut block, rest, PAD);
+        put_padded(&mut block, rest);
         s.add(&block).p8()
     }
 
@@ -100,7 +101,17 @@ impl State {
         ensures { λ r. ⌜ r ≡ added self (pad 16 []) ⌝ }
     {
         State {
-            x0: self.x0 ^ PAD as u64,
+            x0: self.x0 ^ 1,
+            ..self
+        }
+    }
+
+    // From associated data to text.
+    fn separate(self) -> State
+        ensures { λ r. ⌜ r ≡ separated self ⌝ }
+    {
+        State {
+            x4: self.x4 ^ TEXT_BIT,
             ..self
         }
     }
@@ -115,7 +126,7 @@ impl State {
             return self.add_padding();
         }
         let mut block = [0; 16];
-        put_last(&mut block, text, PAD);
+        put_padded(&mut block, text);
         let s = self.add(&block);
         s.put_rate(&mut block);
         let n = text.len();
@@ -153,7 +164,7 @@ impl State {
         let n = text.len();
         text.copy_from_slice(&block[0..n]);
         let mut last = [0; 16];
-        put_last(&mut last, text, PAD);
+        put_padded(&mut last, text);
         self.add(&last)
     }
 
@@ -213,11 +224,7 @@ fn initialize(key: &[u8; 16], nonce: &[u8; 16]) -> State
 fn begin(key: &[u8; 16], nonce: &[u8; 16], ad: &[u8]) -> State
     ensures { λ r. ⌜ r ≡ begun (now (key .entry)) (now (nonce .entry)) (now (ad .entry)) ⌝ }
 {
-    let s = initialize(key, nonce).absorb_data(ad);
-    State {
-        x4: s.x4 ^ TEXT_BIT,
-        ..s
-    }
+    initialize(key, nonce).absorb_data(ad).separate()
 }
 
 // Seals `text` in place and gives the tag.
@@ -244,8 +251,6 @@ pub fn open(key: &[u8; 16], nonce: &[u8; 16], ad: &[u8], text: &mut [u8], tag: &
     are_bytes(ad);
     are_bytes(text);
     let opens = begin(key, nonce, ad).decrypt(text).has_tag(key, tag);
-    if !opens {
-        text.fill(0);
-    }
+    keep_if(opens, text);
     opens
 }

@@ -1,10 +1,12 @@
 // Bytes as 64-bit words, lowest byte first, and the padding of a last block.
 ghost use mathlib.Core.Path.{_≡_};
 ghost use Prim.Native.Nat.{_+_, _-_, _<_, _≤_};
+ghost use mathlib.Core.Bool.{cond};
 ghost use mathlib.Core.List.{_∷_, _++_};
+ghost use lib.Bits.{bitOr, bitXor};
 ghost use lib.ListN.{length, drop, replicate};
 ghost use Rattle.ascon.specs.Aead.{same};
-ghost use Rattle.ascon.specs.Blocks.{Bytes, word, bytes};
+ghost use Rattle.ascon.specs.Blocks.{Bytes, word, bytes, pad};
 
 // Does nothing, and says of a slice's bytes for the theorems that each is below 256.
 pub(crate) fn are_bytes(b: &[u8])
@@ -39,18 +41,24 @@ pub(crate) fn store_pair(out: &mut [u8], low: u64, high: u64)
     out[8..16].copy_from_slice(&high.to_le_bytes());
 }
 
+// Where sixteen bytes differ from those of two words.
+fn difference(b: &[u8; 16], low: u64, high: u64) -> u64
+    ensures { λ r. ⌜ r ≡ bitOr (bitXor low (word (now (b .entry)))) (bitXor high (word (drop 8 (now (b .entry))))) ⌝ }
+{
+    (low ^ load(b, 0)) | (high ^ load(b, 8))
+}
+
 // Whether sixteen bytes are those of two words: all of them are looked at, whatever they are, with
 // no early exit and no branch.
 pub(crate) fn is_pair(b: &[u8; 16], low: u64, high: u64) -> bool
     ensures { λ r. ⌜ r ≡ same (bytes low ++ bytes high) (now (b .entry)) ⌝ }
 {
     are_bytes(b);
-    let difference = (low ^ load(b, 0)) | (high ^ load(b, 8));
-    difference == 0
+    difference(b, low, high) == 0
 }
 
 // The byte that begins the padding of a last block.
-pub(crate) const PAD: u8 = 1;
+const PAD: u8 = 1;
 
 // The last bytes of a message and a byte behind them, into a block of noughts.
 pub(crate) fn put_last(block: &mut [u8], tail: &[u8], mark: u8)
@@ -60,4 +68,27 @@ pub(crate) fn put_last(block: &mut [u8], tail: &[u8], mark: u8)
     let n = tail.len();
     block[0..n].copy_from_slice(tail);
     block[n] = mark;
+}
+
+// The last bytes of a message, padded, into a block of noughts.
+pub(crate) fn put_padded(block: &mut [u8], tail: &[u8])
+    requires { ⌜ length (now tail) < length (now block) ⌝ ∗ ⌜ now block ≡ replicate (length (now block)) 0 ⌝ }
+    ensures { λ _. ⌜ now (block .exit) ≡ pad (length (now (block .entry))) (now (tail .entry)) ⌝ }
+{
+    put_last(block, tail, PAD);
+}
+
+pub(crate) fn clear(b: &mut [u8])
+    ensures { λ _. ⌜ now (b .exit) ≡ replicate (length (now (b .entry))) 0 ⌝ }
+{
+    b.fill(0);
+}
+
+// Noughts in place of bytes that are not to be kept.
+pub(crate) fn keep_if(keep: bool, b: &mut [u8])
+    ensures { λ _. ⌜ now (b .exit) ≡ cond keep (now (b .entry)) (replicate (length (now (b .entry))) 0) ⌝ }
+{
+    if !keep {
+        clear(b);
+    }
 }

@@ -7,9 +7,8 @@ ghost use lib.Dec.{leb};
 ghost use lib.ListN.{length};
 ghost use Rattle.std.specs.Results.{isOk};
 ghost use Rattle.ascon.specs.Hash.{addWord as wordAdded, absorbedWords, words, output, initial as initialOf, hash256 as hashOf, cxof128 as cxofOf, customized};
-use crate::blocks::PAD;
 use crate::blocks::load;
-use crate::blocks::put_last;
+use crate::blocks::put_padded;
 use crate::state::State;
 
 // The parameters of Ascon-Hash256 and of Ascon-CXOF128.
@@ -45,7 +44,7 @@ impl State {
             rest = &rest[8..];
         }
         let mut block = [0; 8];
-        put_last(&mut block, rest, PAD);
+        put_padded(&mut block, rest);
         s.add_word(load(&block, 0)).p12()
     }
 

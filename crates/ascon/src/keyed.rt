@@ -26,6 +26,18 @@ const AFTER_KEY_STRING: State = State {
     x4: 0x564f_0461_e6e9_8b46,
 };
 
+fn after_mark_string() -> State
+    ensures { λ r. ⌜ r ≡ customized (stringOf Mark) ⌝ }
+{
+    AFTER_MARK_STRING
+}
+
+fn after_key_string() -> State
+    ensures { λ r. ⌜ r ≡ customized (stringOf Key) ⌝ }
+{
+    AFTER_KEY_STRING
+}
+
 impl Purpose {
     // The customization string.
     pub fn string(self) -> &'static [u8]
@@ -42,8 +54,8 @@ impl Purpose {
         ensures { λ r. ⌜ r ≡ customized (stringOf self) ⌝ }
     {
         match self {
-            Purpose::Mark => AFTER_MARK_STRING,
-            Purpose::Key => AFTER_KEY_STRING,
+            Purpose::Mark => after_mark_string(),
+            Purpose::Key => after_key_string(),
         }
     }
 }

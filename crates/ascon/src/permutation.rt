@@ -1,7 +1,7 @@
 // The permutations p[12] and p[8]: thin layers by value, each equal to its definition.
 ghost use mathlib.Core.Path.{_≡_};
 ghost use Prim.Native.Nat.{_<_, _≤_};
-ghost use lib.ListN.{drop};
+ghost use lib.ListN.{drop, getD};
 ghost use Rattle.ascon.specs.Permutation.{complement, addConstant as constantAdded, mixIn as mixedIn, chiWord as chiOf, chi as chiApplied, mixOut as mixedOut, spread as spreadOf, diffuse as diffused, round as rounded, rounds as roundsOf, constants, p12 as permuted12, p8 as permuted8};
 use crate::state::State;
 
@@ -34,6 +34,13 @@ fn spread(x: u64, a: u32, b: u32) -> u64
     ensures { λ r. ⌜ r ≡ spreadOf x a b ⌝ }
 {
     x ^ x.rotate_right(a) ^ x.rotate_right(b)
+}
+
+fn round_constant(i: usize) -> u64
+    requires { ⌜ i < 12 ⌝ }
+    ensures { λ r. ⌜ r ≡ getD constants i 0 ⌝ }
+{
+    ROUND_CONSTANTS[i]
 }
 
 impl State {
@@ -107,7 +114,7 @@ impl State {
     {
         let mut s = self;
         for i in first..12 {
-            s = s.round(ROUND_CONSTANTS[i]);
+            s = s.round(round_constant(i));
         }
         s
     }

@@ -1,6 +1,6 @@
-use Rattle.ascon.specs.Aead.{begun, separated}
+use Rattle.ascon.specs.Aead.{begun}
 use Rattle.ascon.proofs.aead.begin.Needs as need
 
 pub returns : need.returns
-unfolding begun separated
+unfolding begun
 returns c = cc

@@ -20,7 +20,6 @@ loop-rest-again c =
     cc
 
 pub returns : need.returns
-unfolding pad
 returns c =
     let last = absorbed-last (c .loop-rest .s) (c .loop-rest .rest .now) (omega arith) in
     cc

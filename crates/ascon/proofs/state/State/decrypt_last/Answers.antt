@@ -9,7 +9,7 @@ use Rattle.ascon.proofs.AeadLaws.{add-noughts, decrypt-none}
 use Rattle.ascon.proofs.state.State.decrypt_last.Needs as need
 
 pub returns : need.returns
-unfolding pad decrypted afterCiphertext
+unfolding decrypted afterCiphertext
 returns c =
     let filled = add-noughts (c .args .self) (c .args .text .now) (16 - 1 - length (c .args .text .now)) in
     record { bytes = cc; state = cc }

@@ -9,7 +9,7 @@ use Rattle.ascon.proofs.AeadLaws.{encrypt-none}
 use Rattle.ascon.proofs.state.State.encrypt_last.Needs as need
 
 pub returns : need.returns
-unfolding pad encrypted afterText
+unfolding encrypted afterText
 returns c = record { bytes = cc; state = cc }
 
 pub returns-then-is-empty : need.returns-then-is-empty
