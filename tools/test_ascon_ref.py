@@ -20,29 +20,46 @@ def flipped(octets, bit):
 
 
 class Vectors(unittest.TestCase):
-    """Published vectors: for each algorithm that of empty inputs, and the next, of one byte. The
-    latter show what empty inputs leave out: the data, a message, and the string with its length."""
+    """For each algorithm the standard's vector of empty inputs."""
 
     def test_aead128(self):
         self.assertEqual(ascon.seal(KEY, NONCE, b"", b"").hex(), "4f9c278211bec9316bf68f46ee8b2ec6")
-        self.assertEqual(ascon.seal(KEY, NONCE, b"\x30", b"").hex(), "cccb674fe18a09a285d6ab11b35675c0")
 
     def test_hash256(self):
         self.assertEqual(
             ascon.hash256(b"").hex(), "0b3be5850f2f6b98caf29f8fdea89b64a1fa70aa249b8f839bd53baa304d92b2"
-        )
-        self.assertEqual(
-            ascon.hash256(b"\x00").hex(), "0728621035af3ed2bca03bf6fde900f9456f5330e4b5ee23e7f6a1e70291bc80"
         )
 
     def test_cxof128(self):
         self.assertEqual(
             ascon.cxof128(b"", b"", 32).hex(), "4f50159ef70bb3dad8807e034eaebd44c4fa2cbbc8cf1f05511ab66cdcc52990"
         )
+
+
+class BoxValues(unittest.TestCase):
+    """Values that the format of the box fixes, for the keys 00..0f and 10..1f and box number 1. They
+    show what empty inputs leave out: text, associated data, a message, a string with its length."""
+
+    NUMBER_AND_COUNT = bytes([1]) + bytes(11)
+
+    def test_seal(self):
         self.assertEqual(
-            ascon.cxof128(b"\x10", b"", 64).hex(),
-            "0c93a483e7d574d49fe52cce03ee646117977d57a8aa57704ab4daf44b501430"
-            "ff6ac11a5d1fd6f2154b5c65728268270c8bb578508487b8965718ada6272fd6",
+            ascon.seal(KEY, self.NUMBER_AND_COUNT + b"SEAL", b"", b"ab").hex(),
+            "7445" + "4a6e83662b093c22e7d507b52bf4db11",
+        )
+
+    def test_wrap(self):
+        self.assertEqual(
+            ascon.seal(KEY, self.NUMBER_AND_COUNT + b"WRAP", bytes([2, 1]), NONCE).hex(),
+            "52b9928ac0cd08277c0ffecfe6dc6969" + "56b107cadf638c624f27544c096714d3",
+        )
+
+    def test_mark(self):
+        self.assertEqual(ascon.cxof128(b"box mark", KEY + b"ab", 16).hex(), "0159f8d82c4f96a9b7d34f00b51c7429")
+
+    def test_derive(self):
+        self.assertEqual(
+            ascon.cxof128(b"box key", KEY + bytes([5, 2]), 16).hex(), "d373aca3712fec9fa354b6aacdf3a4cf"
         )
 
 

@@ -211,8 +211,8 @@ only k n a c g t bk bn ba bc e = go (same (finalized k (afterCiphertext (length 
       let all = ciphertext-back m s c (begun-fits k n a bk bn ba) bc (cut-16 c) in
       let long : length (decrypted m s c) ≡ length c = length-decrypted m s c (cut-16 c) in
       record {
-        text = rw long (sym (all .text));
-        mark = rw (long, all .state) (sym (same-true (finalized k (afterCiphertext m s c)) g p));
+        same-text = rw long (sym (all .text));
+        same-tag = rw (long, all .state) (sym (same-true (finalized k (afterCiphertext m s c)) g p));
       }
 
   go : (b : Bool) → same (finalized k (afterCiphertext (length c / 16) (begun k n a) c)) g ≡ b → cond b (Some (decrypted (length c / 16) (begun k n a) c)) None ≡ Some t → IsSealing k n a t c g

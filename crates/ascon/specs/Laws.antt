@@ -12,10 +12,10 @@ use Rattle.ascon.specs.Hash.{cxofWords}
 abbrev pub Opens : Type 0
 Opens = (k n a t : List ℕ) → Bytes k → Bytes n → Bytes a → Bytes t → opened k n a (ciphertext k n a t) (tag k n a t) ≡ Some t
 
--- the parts of "is the sealing": the ciphertext, and the tag
+-- ciphertext c and tag g are the sealing of text t
 pub record IsSealing (k n a t c g : List ℕ) : Type 0 where
-  pub text : c ≡ ciphertext k n a t
-  pub mark : g ≡ tag k n a t
+  pub same-text : c ≡ ciphertext k n a t
+  pub same-tag : g ≡ tag k n a t
 
 -- whatever opens to a text is the sealing of that text
 abbrev pub Only : Type 0

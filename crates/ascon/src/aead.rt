@@ -96,7 +96,7 @@ impl State {
         if ad.is_empty() { self } else { self.absorb(ad) }
     }
 
-    // A last block of padding alone.
+    // A last block of padding alone, whose byte 01 is the lowest of x0.
     fn add_padding(self) -> State
         ensures { λ r. ⌜ r ≡ added self (pad 16 []) ⌝ }
     {

@@ -1,5 +1,5 @@
 // The ciphers for programs in C: the functions of `ascon` under C names. A slice is a pointer and a
-// length there, an array of sixteen bytes a pointer; bench/ascon.h declares them.
+// length there, an array of sixteen bytes a pointer; bench/bench.c declares them.
 ghost use mathlib.Core.Path.{_≡_};
 ghost use lib.ListN.{length, replicate};
 ghost use Rattle.std.specs.Options.{isSome, valueOr};
