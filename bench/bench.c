@@ -171,9 +171,11 @@ int main(void) {
     compare_all();
     printf("%-18s %12s %12s %10s\n", "", "Rattle, ns", "C, ns", "Rattle/C");
     measure("seal 1024 bytes", seal_times, 1024);
+    measure("seal 23 bytes", seal_times, 23);
     measure("seal 16 bytes", seal_times, 16);
     measure("seal 0 bytes", seal_times, 0);
     measure("open 1024 bytes", open_times, 1024);
+    measure("open 23 bytes", open_times, 23);
     measure("open 16 bytes", open_times, 16);
     measure("open 0 bytes", open_times, 0);
     measure("mark 32 bytes", mark_times, MARK_TEXT);

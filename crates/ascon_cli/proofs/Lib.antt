@@ -1,0 +1,4 @@
+mod Cuts
+mod Numbers
+mod Adds
+mod Flow

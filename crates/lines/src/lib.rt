@@ -1,0 +1,3 @@
+//! Text that programs read and write by the line.
+
+pub mod hex;
