@@ -1,5 +1,6 @@
-// Ascon-AEAD128. Text is sealed and opened in place, so that lengths always fit and no second
-// copy of a text arises.
+//! Ascon-AEAD128. Text is sealed and opened in place, so that lengths always fit and no second
+//! copy of a text arises.
+
 ghost use mathlib.Core.Path.{_≡_};
 ghost use Prim.Native.Nat.{_/_, _<_};
 ghost use lib.ListN.{length, replicate};
@@ -227,7 +228,7 @@ fn begin(key: &[u8; 16], nonce: &[u8; 16], ad: &[u8]) -> State
     initialize(key, nonce).absorb_data(ad).separate()
 }
 
-// Seals `text` in place and gives the tag.
+/// Seals `text` in place and gives the tag.
 pub fn seal(key: &[u8; 16], nonce: &[u8; 16], ad: &[u8], text: &mut [u8]) -> [u8; 16]
     ensures bytes { λ _. ⌜ now (text .exit) ≡ ciphertext (now (key .entry)) (now (nonce .entry)) (now (ad .entry)) (now (text .entry)) ⌝ }
     ensures tag { λ r. ⌜ r ≡ tagOf (now (key .entry)) (now (nonce .entry)) (now (ad .entry)) (now (text .entry)) ⌝ }
@@ -240,7 +241,7 @@ pub fn seal(key: &[u8; 16], nonce: &[u8; 16], ad: &[u8], text: &mut [u8]) -> [u8
     begin(key, nonce, ad).encrypt(text).finalize(key)
 }
 
-// Opens `text` in place: whether it opens; where it doesn't, noughts are left.
+/// Opens `text` in place: whether it opens; where it doesn't, noughts are left.
 pub fn open(key: &[u8; 16], nonce: &[u8; 16], ad: &[u8], text: &mut [u8], tag: &[u8; 16]) -> bool
     ensures test { λ r. ⌜ r ≡ isSome (opened (now (key .entry)) (now (nonce .entry)) (now (ad .entry)) (now (text .entry)) (now (tag .entry))) ⌝ }
     ensures bytes { λ _. ⌜ now (text .exit) ≡ valueOr (opened (now (key .entry)) (now (nonce .entry)) (now (ad .entry)) (now (text .entry)) (now (tag .entry))) (replicate (length (now (text .entry))) 0) ⌝ }

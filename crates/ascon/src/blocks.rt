@@ -1,4 +1,5 @@
-// Bytes as 64-bit words, lowest byte first, and the padding of a last block.
+//! Bytes as 64-bit words, lowest byte first, and the padding of a last block.
+
 ghost use mathlib.Core.Path.{_≡_};
 ghost use Prim.Native.Nat.{_+_, _-_, _<_, _≤_};
 ghost use mathlib.Core.Bool.{cond};

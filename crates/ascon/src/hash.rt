@@ -1,4 +1,5 @@
-// Ascon-Hash256 and Ascon-CXOF128, and the box's own uses of CXOF128 with a key.
+//! Ascon-Hash256 and Ascon-CXOF128, and the box's own uses of CXOF128 with a key.
+
 ghost use mathlib.Core.Path.{_≡_};
 ghost use mathlib.Core.Bool.{cond};
 ghost use mathlib.Core.List.{_++_, _∷_, []};
@@ -19,7 +20,7 @@ const CXOF_IV: u64 = 0x0000_0800_00cc_0004;
 // The longest customization string, in bytes.
 const STRING_LIMIT: usize = 256;
 
-// A customization string of more than 256 bytes.
+/// A customization string of more than 256 bytes.
 #[derive(Clone, Copy, Debug)]
 pub struct StringTooLong;
 
@@ -76,7 +77,7 @@ fn initial(iv: u64) -> State
     }.p12()
 }
 
-// Ascon-Hash256 of a message.
+/// Ascon-Hash256 of a message.
 pub fn hash256(message: &[u8], out: &mut [u8; 32])
     ensures { λ _. ⌜ now (out .exit) ≡ hashOf (now (message .entry)) ⌝ }
 {
@@ -92,7 +93,7 @@ fn customize(string: &[u8]) -> State
     initial(CXOF_IV).add_word(bits).p12().absorb_words(string)
 }
 
-// Ascon-CXOF128: fills `out`; a string of more than 256 bytes is refused, and `out` is as it was.
+/// Ascon-CXOF128: fills `out`; a string of more than 256 bytes is refused, and `out` is as it was.
 pub fn cxof128(string: &[u8], message: &[u8], out: &mut [u8]) -> Result<(), StringTooLong>
     ensures test { λ r. ⌜ isOk r ≡ leb (length (now (string .entry))) 256 ⌝ }
     ensures bytes { λ r. ⌜ now (out .exit) ≡ cond (isOk r) (cxofOf (now (string .entry)) (now (message .entry)) (length (now (out .entry)))) (now (out .entry)) ⌝ }

@@ -1,5 +1,6 @@
-// The box's uses of Ascon-CXOF128 with a key. Key and text are never put into one buffer: a key is
-// two whole words, so they are absorbed one after the other.
+//! The box's uses of Ascon-CXOF128 with a key. Key and text are never put into one buffer: a key is
+//! two whole words, so they are absorbed one after the other.
+
 ghost use mathlib.Core.Path.{_≡_};
 ghost use mathlib.Core.List.{_∷_, []};
 ghost use Rattle.ascon.specs.Hash.{customized};
@@ -39,7 +40,7 @@ fn after_key_string() -> State
 }
 
 impl Purpose {
-    // The customization string.
+    /// The customization string.
     pub fn string(self) -> &'static [u8]
         ensures { λ r. ⌜ now r ≡ stringOf self ⌝ }
     {
@@ -73,14 +74,14 @@ fn keyed(purpose: Purpose, key: &[u8; 16], text: &[u8], out: &mut [u8; 16])
         .squeeze(out)
 }
 
-// The mark of a text under a key.
+/// The mark of a text under a key.
 pub fn mark(key: &[u8; 16], text: &[u8], out: &mut [u8; 16])
     ensures { λ _. ⌜ now (out .exit) ≡ keyedOf Mark (now (key .entry)) (now (text .entry)) ⌝ }
 {
     keyed(Purpose::Mark, key, text, out)
 }
 
-// The key derived from a key with a label and a role.
+/// The key derived from a key with a label and a role.
 pub fn derive(key: &[u8; 16], label: u8, role: u8, out: &mut [u8; 16])
     ensures { λ _. ⌜ now (out .exit) ≡ keyedOf Key (now (key .entry)) (label ∷ role ∷ []) ⌝ }
 {

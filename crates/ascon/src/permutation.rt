@@ -1,4 +1,5 @@
-// The permutations p[12] and p[8]: thin layers by value, each equal to its definition.
+//! The permutations p[12] and p[8]: thin layers by value, each equal to its definition.
+
 ghost use mathlib.Core.Path.{_≡_};
 ghost use Prim.Native.Nat.{_<_, _≤_};
 ghost use lib.ListN.{drop, getD};

@@ -1,5 +1,5 @@
-// The permutation's state: five 64-bit words. It has a file of its own, so that the
-// definitions in specs/ can speak of it and the code can cite those definitions.
+/// The permutation's state: five 64-bit words. It has a file of its own, so that the
+/// definitions in specs/ can speak of it and the code can cite those definitions.
 #[derive(Clone, Copy)]
 pub struct State {
     pub x0: u64,

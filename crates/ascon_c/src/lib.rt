@@ -1,5 +1,6 @@
-// The ciphers for programs in C: the functions of `ascon` under C names. A slice is a pointer and a
-// length there, an array of sixteen bytes a pointer; bench/bench.c declares them.
+//! The ciphers for programs in C: the functions of `ascon` under C names. A slice is a pointer and a
+//! length there, an array of sixteen bytes a pointer; bench/bench.c declares them.
+
 ghost use mathlib.Core.Path.{_≡_};
 ghost use lib.ListN.{length, replicate};
 ghost use Rattle.std.specs.Options.{isSome, valueOr};
@@ -44,7 +45,7 @@ pub extern "C" fn ascon_mark(key: &[u8; 16], text: &[u8], out: &mut [u8; 16])
     ascon::mark(key, text, out)
 }
 
-// Five words of state; #[repr(C)] so that C sees an array of five.
+/// Five words of state; #[repr(C)] so that C sees an array of five.
 #[repr(C)]
 pub struct Words {
     pub x0: u64,
