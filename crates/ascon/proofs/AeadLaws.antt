@@ -7,8 +7,8 @@ use native.Mathlib.Omega.{arith}
 use borrow.Rule.Slice.PartMut.{putMid}
 use lib.Bits.{bitOr, bitXor, or-add-and, and-le-l, and-le-r, xor-assoc, xor-self, xor-zero-l, xor-zero-r}
 use lib.Dec.{eqb}
-use lib.ListN.{length, getD, take, drop, replicate}
-use Rattle.std.proofs.shelf.Lists.{length-append, length-take, take-more, take-rest, length-drop, drop-all, append-nil, same-from-push}
+use lib.ListN.{length, take, drop, replicate}
+use Rattle.std.proofs.shelf.Lists.{length-append, length-take, take-rest, length-drop, drop-all, append-nil}
 use Rattle.std.proofs.shelf.Tests.{both-ways, eqb-true, eq-eqb, cond-true, cond-false}
 use Rattle.std.specs.Options.{isSome, valueOr}
 use Rattle.std.specs.declared.option.Option.{Option}

@@ -1,8 +1,8 @@
 -- The states after the box's customization strings: antt works them out.
 use mathlib.Core.Path.{_≡_, refl}
 use lib.Chars.{codes}
-use Rattle.ascon.specs.Permutation.{p12, rounds, round, diffuse, spread, rotated, mixOut, complement, chi, chiWord, mixIn, addConstant}
-use Rattle.ascon.specs.Blocks.{word, pad, blocks, padded}
+use Rattle.ascon.specs.Permutation.{p12, rounds, round, spread, rotated}
+use Rattle.ascon.specs.Blocks.{word, blocks, padded}
 use Rattle.ascon.specs.Hash.{addWord, absorbedWords, words, initial, customized}
 
 pub after-mark-string : customized (codes "box mark") ≡ record { x0 = 0xde8e4dddb1dd3aa8; x1 = 0xf20fb5126602f3d5; x2 = 0x8058dceb3bcdc6b8; x3 = 0x36ec904e0872b8be; x4 = 0x33063abd876d3ddb }

@@ -1,6 +1,6 @@
 -- One word of input or of output at a time, for the loops of Ascon-Hash256 and Ascon-CXOF128.
-use Prim.Native.Nat.{ℕ, zero, suc, _+_, _-_, _*_, _/_, _<_, _≤_}
-use mathlib.Core.Path.{_≡_, refl, sym, ap, _∙_}
+use Prim.Native.Nat.{ℕ, suc, _+_, _-_, _*_, _/_, _<_, _≤_}
+use mathlib.Core.Path.{_≡_, refl, ap, _∙_}
 use mathlib.Core.List.{List, [], _∷_, _++_, map}
 use native.Mathlib.Omega.{arith}
 use native.Mathlib.Nat.{div-eq-sub-div}
@@ -11,7 +11,7 @@ use Rattle.std.proofs.shelf.Lists.{length-append, length-take, length-drop, dro
 use Rattle.std.proofs.shelf.Parts.{take-putMid}
 use Rattle.ascon.specs.declared.state.State.{State}
 use Rattle.ascon.specs.Permutation.{p12}
-use Rattle.ascon.specs.Blocks.{word, bytes, pad, padded}
+use Rattle.ascon.specs.Blocks.{word, bytes, pad}
 use Rattle.ascon.specs.Hash.{addWord, absorbedWords, words, stream, output, initial, cxofWords, cxof128, customized}
 use Rattle.ascon.specs.declared.purpose.Purpose.{Purpose}
 use Rattle.ascon.specs.Keyed.{stringOf, keyed}
@@ -42,11 +42,6 @@ absorbedWords-++ s (x ∷ xs) ys = absorbedWords-++ (p12 (addWord s x)) xs ys
 pub cxof-customized : (z m : List ℕ) (n : ℕ) → cxof128 z m n ≡ output n (absorbedWords (customized z) (words m))
 unfolding cxof128 cxofWords customized
 cxof-customized z m n = ap (output n) (absorbedWords-++ (initial 0x0000080000cc0004) (8 * length z ∷ words z) (words m))
-
-pub length-stream : (k : ℕ) (s : State) → length (stream k s) ≡ 8 * k
-unfolding stream bytes
-length-stream zero s = refl
-length-stream (suc k) s = let e = length-stream k (p12 s) in simp length-append (omega arith)
 
 -- one word of output more
 pub output-more : (n : ℕ) (s : State) → 8 ≤ n → output n s ≡ bytes (s .x0) ++ output (n - 8) (p12 s)

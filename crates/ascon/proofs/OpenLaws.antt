@@ -1,15 +1,14 @@
 -- Decryption undoes encryption, and encryption decryption, with the same state behind.
-use Prim.Native.Nat.{ℕ, zero, suc, _+_, _-_, _*_, _/_, _^_, _<_, _≤_}
+use Prim.Native.Nat.{ℕ, zero, suc, _+_, _-_, _/_, _<_, _≤_}
 use mathlib.Core.Path.{_≡_, refl, sym, ap, subst, _∙_}
 use mathlib.Core.Bool.{Bool, true, false, cond}
 use mathlib.Core.Logic.{⊎-elim}
-use mathlib.Core.List.{List, [], _∷_, _++_}
+use mathlib.Core.List.{List, _++_}
 use native.Mathlib.Omega.{arith}
 use lib.Bits.{bitXor, xor-assoc, xor-self, xor-zero-l}
 use lib.ListN.{length, getD, take, drop}
-use Rattle.std.proofs.shelf.Lists.{take-all, length-append, length-take, length-drop, length-take-le, take-at, drop-at, take-append-drop, getD-append-left, getD-append-right, getD-take, getD-drop, ext-getD}
-use Rattle.std.proofs.shelf.Tests.{both-ways, cases-lt}
-use Rattle.std.specs.declared.option.Option.{Option}
+use Rattle.std.proofs.shelf.Lists.{take-all, length-append, length-drop, length-take-le, take-at, drop-at, take-append-drop, getD-append-left, getD-append-right, getD-take, getD-drop, ext-getD}
+use Rattle.std.proofs.shelf.Tests.{cases-lt}
 use Rattle.std.specs.declared.option.Option.the-variants.{Some, None}
 use Rattle.ascon.specs.declared.state.State.{State}
 use Rattle.ascon.specs.Permutation.{p8}
@@ -18,7 +17,7 @@ use Rattle.ascon.specs.Aead.{rate, add, replace, encrypted, afterText, decrypt
 use Rattle.ascon.specs.Laws.{Opens, Only, IsSealing}
 use Rattle.ascon.proofs.BlockLaws.{length-bytes, Cut, cut}
 use Rattle.ascon.proofs.AeadLaws.{length-rate, same-true, same-refl}
-use Rattle.ascon.proofs.WordLaws.{word-of, byte-word, byte-xor, Bytes-bytes, Bytes-take, Bytes-drop, Bytes-++, Bytes-pad, getD-pad, length-pad}
+use Rattle.ascon.proofs.WordLaws.{word-of, byte-word, byte-xor, Bytes-bytes, Bytes-take, Bytes-drop, Bytes-++, Bytes-pad, getD-pad}
 use Rattle.ascon.proofs.StateLaws.{Fits, p8-fits, add-fits, begun-fits}
 
 -- twice the same exclusive or is none

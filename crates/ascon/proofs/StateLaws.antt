@@ -1,15 +1,15 @@
 -- Every word of a state stays below 2^64.
-use Prim.Native.Nat.{ℕ, zero, suc, _+_, _-_, _*_, _/_, _%_, _^_, _<_, _≤_}
+use Prim.Native.Nat.{ℕ, zero, suc, _-_, _*_, _/_, _%_, _^_, _<_}
 use mathlib.Core.List.{List, [], _∷_}
 use native.Mathlib.Omega.{arith}
-use lib.Bits.{bitAnd, bitOr, bitXor, xor-lt, and-lt, or-lt}
+use lib.Bits.{bitAnd, bitXor, xor-lt, and-lt, or-lt}
 use lib.Dec.{lit<}
 use lib.ListN.{length, take, drop}
 use Rattle.std.proofs.shelf.Bits.{shr-le, mod-below}
 use Rattle.ascon.specs.declared.state.State.{State}
 use Rattle.ascon.specs.Permutation.{rotated, complement, addConstant, mixIn, chiWord, chi, mixOut, spread, diffuse, round, rounds, constants, p12, p8}
 use Rattle.ascon.specs.Blocks.{Bytes, word, pad, blocks, padded}
-use Rattle.ascon.specs.Aead.{add, addKeyLow, initialized, absorbed, withData, separated, begun}
+use Rattle.ascon.specs.Aead.{add, addKeyLow, initialized, absorbed, withData, begun}
 use Rattle.ascon.proofs.WordLaws.{word-lt, Bytes-take, Bytes-drop, Bytes-pad}
 
 pub record Fits (s : State) : Type 0 where

@@ -1,12 +1,12 @@
 -- Tags compared as two words.
-use Prim.Native.Nat.{ℕ, _-_, _+_, _^_, _<_}
+use Prim.Native.Nat.{ℕ, _+_, _^_, _<_}
 use mathlib.Core.Path.{_≡_, refl, sym, ap, _∙_}
-use mathlib.Core.List.{List, [], _∷_, _++_}
+use mathlib.Core.List.{List, _++_}
 use native.Mathlib.Omega.{arith}
 use lib.Bits.{bitOr, bitXor, xor-self}
 use lib.Dec.{eqb}
-use lib.ListN.{length, getD, take, drop}
-use Rattle.std.proofs.shelf.Lists.{length-drop, take-append-drop, length-take-le, getD-take, ext-getD}
+use lib.ListN.{length, take, drop}
+use Rattle.std.proofs.shelf.Lists.{length-drop, take-append-drop, length-take-le, ext-getD}
 use Rattle.std.proofs.shelf.Tests.{eqb-true, eq-eqb}
 use Rattle.ascon.specs.Blocks.{Bytes, word, bytes}
 use Rattle.ascon.specs.Aead.{same}

@@ -3,7 +3,7 @@
 ghost use mathlib.Core.Path.{_≡_};
 ghost use Prim.Native.Nat.{_<_, _≤_};
 ghost use lib.ListN.{drop, getD};
-ghost use Rattle.ascon.specs.Permutation.{complement, addConstant as constantAdded, mixIn as mixedIn, chiWord as chiOf, chi as chiApplied, mixOut as mixedOut, spread as spreadOf, diffuse as diffused, round as rounded, rounds as roundsOf, constants, p12 as permuted12, p8 as permuted8};
+ghost use Rattle.ascon.specs.Permutation.{addConstant as constantAdded, mixIn as mixedIn, chiWord as chiOf, chi as chiApplied, mixOut as mixedOut, spread as spreadOf, diffuse as diffused, round as rounded, rounds as roundsOf, constants, p12 as permuted12, p8 as permuted8};
 use crate::state::State;
 
 // The constants of the twelve rounds; p[8] takes the last eight.

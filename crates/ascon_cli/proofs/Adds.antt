@@ -1,11 +1,9 @@
 -- What a text has grown by, where memory sufficed.
-use mathlib.Core.Bool.{Bool, true, cond}
+use mathlib.Core.Bool.{true, cond}
 use mathlib.Core.List.{List, _++_, append-assoc}
 use mathlib.Core.Path.{_≡_, refl, sym, ap, _∙_}
 use Prim.Native.Nat.{ℕ}
 use native.Mathlib.Omega.{arith}
-use lib.ListN.{length, take}
-use Rattle.std.proofs.shelf.Lists.{take-at}
 use Rattle.std.specs.Options.{isSome, valueOr}
 use Rattle.std.specs.Results.{isOk}
 use Rattle.std.specs.Vec.{made}
@@ -23,11 +21,6 @@ use Rattle.ascon_cli.specs.Format.{answered, reply, request}
 pub added : {X Y : Type 0} (r : Result X Y) (o₀ o₂ x y : List ℕ) → x ≡ y → made r (λ _. o₂ ≡ o₀ ++ x) → made r (λ _. o₂ ≡ o₀ ++ y)
 added (Ok v) o₀ o₂ x y e h = h ∙ ap (λ z. o₀ ++ z) e
 added (Err v) o₀ o₂ x y e h = tt
-
--- All or nothing.
-pub added-all : {X Y : Type 0} (r : Result X Y) (o₀ o₂ x y : List ℕ) → x ≡ y → o₂ ≡ cond (isOk r) (o₀ ++ x) o₀ → made r (λ _. o₂ ≡ o₀ ++ y)
-added-all (Ok v) o₀ o₂ x y e h = h ∙ ap (λ z. o₀ ++ z) e
-added-all (Err v) o₀ o₂ x y e h = tt
 
 -- Two texts, one after the other.
 pub added-two : {X Y : Type 0} (r : Result X Y) (o₀ o₁ o₂ x y : List ℕ) → o₁ ≡ o₀ ++ x → o₂ ≡ cond (isOk r) (o₁ ++ y) o₁ → made r (λ _. o₂ ≡ o₀ ++ (x ++ y))

@@ -1,9 +1,8 @@
 -- The steps of reading a decimal number.
-use mathlib.Core.Bool.{Bool, true, cond}
-use mathlib.Core.List.{List, [], _∷_}
-use mathlib.Core.Path.{_≡_, refl, sym, ap, _∙_}
-use Prim.Native.Nat.{ℕ, suc, _+_, _-_, _*_, _^_, _<_, _≤_}
-use native.Mathlib.Nat.{pow-suc, pow-le-pow-right}
+use mathlib.Core.List.{List}
+use mathlib.Core.Path.{_≡_, sym, ap, _∙_}
+use Prim.Native.Nat.{ℕ, _+_, _*_, _^_, _<_, _≤_}
+use native.Mathlib.Nat.{pow-suc}
 use native.Mathlib.Numerals.{add-one}
 use native.Mathlib.Omega.{arith}
 use lib.ListN.{length, getD, drop}
@@ -30,9 +29,6 @@ decimal-all w i n h = at-drop-all (decimal n) w i h
 -- A number of few digits is small.
 pub power-more : (i n v : ℕ) → n < 10 ^ i → v < 10 → n * 10 + v < 10 ^ (i + 1)
 power-more i n v h k = rw (add-one, pow-suc) (omega arith)
-
-pub power-small : (i n : ℕ) → n < 10 ^ i → i ≤ 5 → n < 100000
-power-small i n h k = let p : 10 ^ i ≤ 10 ^ 5 = pow-le-pow-right (omega arith) k in omega arith
 
 pub length-is : (w : List ℕ) (o : Option ℕ) → 0 < length w → length w ≤ 5 → decimal 0 w ≡ o → outputLength w ≡ within o
 length-is w o h k e = cond-true _ _ _ (and-from _ _ (le-leb _ _ h) (le-leb _ _ k)) ∙ ap within e

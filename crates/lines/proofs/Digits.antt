@@ -1,19 +1,17 @@
 -- The steps of decoding and encoding, and that decoding reads back what was encoded.
-use mathlib.Core.Bool.{Bool, true, false, cond}
+use mathlib.Core.Bool.{Bool}
 use mathlib.Core.List.{List, [], _∷_, _++_, append-assoc, append-nil, map}
-use mathlib.Core.Logic.{_⊎_, inl, inr, ⊎-elim}
 use mathlib.Core.Path.{_≡_, refl, sym, ap, _∙_}
-use Prim.Native.Nat.{ℕ, suc, zero, _+_, _-_, _*_, _/_, _%_, _<_, _≤_}
+use Prim.Native.Nat.{ℕ, _+_, _*_, _/_, _%_, _<_, _≤_}
 use native.Mathlib.Omega.{arith}
 use borrow.Author.Needs.{needs}
 use lib.Dec.{eqb}
 use lib.ListN.{length, drop, getD}
 use Rattle.std.proofs.shelf.Lists.{at-drop-all, at-drop-more}
-use Rattle.std.proofs.shelf.Tests.{cases-lt, lt-ltb, le-ltb}
 use Rattle.std.specs.Orderings.{When}
 use Rattle.std.specs.declared.option.Option.{Option}
 use Rattle.std.specs.declared.option.Option.the-variants.{Some, None}
-use Rattle.lines.specs.Hex.{byte, digit, decoded, encoded, following, onto, sign, small, Bytes, Reads-back, Writes-back}
+use Rattle.lines.specs.Hex.{byte, digit, decoded, encoded, following, onto, sign, small, Reads-back, Writes-back}
 
 -- Two digits and the rest.
 pub decoded-pair : (ds : List ℕ) → 2 ≤ length ds → decoded ds ≡ onto (byte (digit (getD ds 0 0)) (digit (getD ds 1 0))) (decoded (drop 2 ds))

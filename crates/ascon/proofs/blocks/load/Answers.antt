@@ -1,6 +1,5 @@
 use lib.Seq.{getD-drop}
 use native.Mathlib.Nat.{add-zero}
-use mathlib.Core.Path.{_∙_, sym}
 use Rattle.ascon.specs.Blocks.{word}
 use Rattle.ascon.proofs.blocks.load.Needs as need
 

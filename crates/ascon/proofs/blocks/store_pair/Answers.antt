@@ -1,5 +1,4 @@
 use mathlib.Core.Path.{_≡_, ap, _∙_}
-use native.Mathlib.Omega.{arith}
 use lib.ListN.{length}
 use Rattle.ascon.specs.Blocks.{bytes}
 use Rattle.ascon.proofs.BlockLaws.{two-halves}

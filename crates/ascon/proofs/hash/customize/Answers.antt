@@ -1,4 +1,3 @@
-use mathlib.Core.Path.{_≡_}
 use Rattle.ascon.specs.Hash.{customized, absorbedWords}
 use Rattle.ascon.proofs.hash.customize.Needs as need
 

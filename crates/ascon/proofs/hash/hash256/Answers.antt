@@ -1,4 +1,3 @@
-use mathlib.Core.Path.{_≡_}
 use Rattle.ascon.specs.Hash.{hash256}
 use Rattle.ascon.proofs.hash.hash256.Needs as need
 

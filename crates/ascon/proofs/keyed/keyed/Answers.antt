@@ -1,4 +1,3 @@
-use mathlib.Core.Path.{_≡_}
 use Rattle.ascon.proofs.HashLaws.{keyed-absorbed}
 use Rattle.ascon.proofs.keyed.keyed.Needs as need
 

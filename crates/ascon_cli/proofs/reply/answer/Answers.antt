@@ -1,4 +1,3 @@
-use mathlib.Core.Path.{_≡_, ap, sym, _∙_}
 use Rattle.std.specs.Of.Vec.{vec-items}
 use Rattle.ascon_cli.proofs.Adds.{added, reply-is, reported}
 use Rattle.ascon_cli.proofs.reply.answer.Needs as need

@@ -1,4 +1,4 @@
-use mathlib.Core.Path.{_≡_, ap, sym, _∙_}
+use mathlib.Core.Path.{_≡_, ap, _∙_}
 use lib.ListN.{length}
 use Rattle.ascon.specs.Hash.{cxof128}
 use Rattle.std.proofs.shelf.Lists.{take-at}

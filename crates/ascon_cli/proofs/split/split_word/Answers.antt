@@ -1,4 +1,3 @@
-use mathlib.Core.Path.{_≡_}
 use Rattle.ascon_cli.proofs.Cuts.{words-split}
 use Rattle.ascon_cli.proofs.split.split_word.Needs as need
 

@@ -1,11 +1,11 @@
-use mathlib.Core.Path.{_≡_, sym, ap, _∙_}
+use mathlib.Core.Path.{sym, ap, _∙_}
 use Prim.Native.Nat.{_<_, _≤_}
 use native.Mathlib.Omega.{arith}
 use borrow.Author.Tests.{ltb-true, ltb-false}
-use lib.ListN.{length, drop}
+use lib.ListN.{length}
 use Rattle.std.proofs.shelf.Lists.{take-rest, length-drop}
 use Rattle.std.specs.Of.Vec.{vec-items}
-use Rattle.lines.specs.Hex.{decoded, following}
+use Rattle.lines.specs.Hex.{following}
 use Rattle.lines.proofs.Digits.{decoded-bad, decoded-end, decoded-step, following-none}
 use Rattle.lines.proofs.hex.decode_onto.Needs as need
 

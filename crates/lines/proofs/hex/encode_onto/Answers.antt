@@ -1,12 +1,8 @@
-use mathlib.Core.List.{_∷_, [], _++_, append-assoc, append-nil}
-use mathlib.Core.Path.{_≡_, sym, ap, _∙_}
-use Prim.Native.Nat.{_<_, _≤_, _+_, _%_, _/_}
+use mathlib.Core.List.{append-nil}
+use mathlib.Core.Path.{_∙_}
 use native.Mathlib.Omega.{arith}
-use lib.ListN.{length, drop, getD}
-use Rattle.std.proofs.shelf.Lists.{at-drop-all}
 use Rattle.std.proofs.shelf.Results.{err-from-errBy}
 use Rattle.std.specs.Of.Vec.{vec-items}
-use Rattle.lines.specs.Hex.{encoded}
 use Rattle.lines.proofs.Digits.{encoded-none, encoded-push, reads-back as it-reads-back, writes-back as it-writes-back}
 use Rattle.lines.proofs.hex.encode_onto.Needs as need
 

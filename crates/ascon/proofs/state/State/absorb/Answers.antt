@@ -1,9 +1,6 @@
-use mathlib.Core.Path.{_≡_, refl}
-use Prim.Native.Nat.{_≤_, _<_, _-_}
+use mathlib.Core.Path.{refl}
 use native.Mathlib.Omega.{arith}
-use lib.ListN.{length, take, drop}
 use Rattle.std.proofs.shelf.Lists.{take-rest, length-take, length-drop}
-use Rattle.ascon.specs.Blocks.{pad}
 use Rattle.ascon.proofs.AeadLaws.{absorbed-more, absorbed-last}
 use Rattle.ascon.proofs.state.State.absorb.Needs as need
 

@@ -1,5 +1,4 @@
-use mathlib.Core.Path.{_≡_, sym, _∙_}
-use lib.ListN.{length}
+use mathlib.Core.Path.{sym, _∙_}
 use borrow.Author.Tests.{eqb-true, eqb-false}
 use Rattle.ascon.proofs.AeadLaws.{no-data, some-data}
 use Rattle.ascon.proofs.state.State.absorb_data.Needs as need

@@ -1,7 +1,6 @@
-use mathlib.Core.Path.{_≡_, refl}
+use mathlib.Core.Path.{refl}
 use native.Mathlib.Omega.{arith}
 use Rattle.std.proofs.shelf.Lists.{take-rest, length-take, length-drop}
-use Rattle.ascon.specs.Blocks.{pad}
 use Rattle.ascon.proofs.HashLaws.{absorbedWords-more, absorbedWords-last}
 use Rattle.ascon.proofs.state.State.absorb_words.Needs as need
 

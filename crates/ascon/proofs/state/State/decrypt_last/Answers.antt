@@ -1,9 +1,7 @@
-use mathlib.Core.Path.{_≡_, sym, _∙_}
+use mathlib.Core.Path.{sym, _∙_}
 use borrow.Author.Tests.{eqb-true}
 use Prim.Native.Nat.{_-_}
-use lib.ListN.{length, take}
-use native.Mathlib.Omega.{arith}
-use Rattle.ascon.specs.Blocks.{pad}
+use lib.ListN.{length}
 use Rattle.ascon.specs.Aead.{decrypted, afterCiphertext}
 use Rattle.ascon.proofs.AeadLaws.{add-noughts, decrypt-none}
 use Rattle.ascon.proofs.state.State.decrypt_last.Needs as need

@@ -1,9 +1,5 @@
-use mathlib.Core.Path.{_≡_, sym, _∙_}
+use mathlib.Core.Path.{sym, _∙_}
 use borrow.Author.Tests.{eqb-true}
-use Prim.Native.Nat.{_-_}
-use lib.ListN.{length, take}
-use native.Mathlib.Omega.{arith}
-use Rattle.ascon.specs.Blocks.{pad}
 use Rattle.ascon.specs.Aead.{encrypted, afterText}
 use Rattle.ascon.proofs.AeadLaws.{encrypt-none}
 use Rattle.ascon.proofs.state.State.encrypt_last.Needs as need

@@ -1,10 +1,9 @@
-use mathlib.Core.Path.{_≡_, refl, sym, ap, _∙_}
+use mathlib.Core.Path.{_≡_, sym, ap, _∙_}
 use Prim.Native.Nat.{ℕ, _+_}
 use native.Mathlib.Omega.{arith}
-use mathlib.Core.List.{List, _∷_}
+use mathlib.Core.List.{List}
 use lib.ListN.{drop, getD}
 use Rattle.std.proofs.shelf.Lists.{drop-more, drop-all}
-use Rattle.ascon.specs.declared.state.State.{State}
 use Rattle.ascon.specs.Permutation.{rounds, round, constants}
 use Rattle.ascon.proofs.state.State.rounds_from.Needs as need
 

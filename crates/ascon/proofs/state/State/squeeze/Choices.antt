@@ -1,8 +1,5 @@
-use mathlib.Core.Path.{_≡_}
-use mathlib.Core.List.{_++_}
-use Prim.Native.Nat.{_-_, _≤_}
-use lib.ListN.{length, take}
-use Rattle.ascon.specs.Hash.{output}
+use Prim.Native.Nat.{_-_}
+use lib.ListN.{length}
 use Rattle.ascon.proofs.HashLaws.{Squeezed}
 use Rattle.ascon.proofs.state.State.squeeze.Given as given
 
