@@ -1,4 +1,4 @@
-//! Ascon-Hash256 and Ascon-CXOF128, and the box's own uses of CXOF128 with a key.
+//! Ascon-Hash256 and Ascon-CXOF128.
 
 ghost use mathlib.Core.Path.{_≡_};
 ghost use mathlib.Core.Bool.{cond};
