@@ -6,17 +6,17 @@ use mathlib.Core.List.{List, [], _∷_, _++_}
 use native.Mathlib.Omega.{arith}
 use borrow.Rule.Slice.PartMut.{putMid}
 use lib.Bits.{bitOr, bitXor, or-add-and, and-le-l, and-le-r, xor-assoc, xor-self, xor-zero-l, xor-zero-r}
-use lib.Dec.{eqb}
 use lib.ListN.{length, take, drop, replicate}
 use Rattle.std.proofs.shelf.Lists.{length-append, length-take, take-rest, length-drop, drop-all, append-nil}
-use Rattle.std.proofs.shelf.Tests.{both-ways, eqb-true, eq-eqb, cond-true, cond-false}
+use Rattle.std.proofs.shelf.Tests.{both-ways, cond-true, cond-false}
 use Rattle.std.specs.Options.{isSome, valueOr}
 use Rattle.std.specs.declared.option.Option.{Option}
 use Rattle.std.specs.declared.option.Option.the-variants.{Some, None}
+use Rattle.std.specs.shelf.Text.{sameBytes}
 use Rattle.ascon.specs.declared.state.State.{State}
 use Rattle.ascon.specs.Permutation.{p8}
 use Rattle.ascon.specs.Blocks.{bytes, word, pad, padded}
-use Rattle.ascon.specs.Aead.{rate, add, replace, absorbed, withData, encrypted, afterText, decrypted, afterCiphertext, same, begun, finalized, opened}
+use Rattle.ascon.specs.Aead.{rate, add, replace, absorbed, withData, encrypted, afterText, decrypted, afterCiphertext, begun, finalized, opened}
 use Rattle.ascon.proofs.BlockLaws.{whole-more, whole-none, length-written, behind-written, block-written, padded-more, padded-last, word-noughts}
 
 pub length-rate : (s : State) → length (rate s) ≡ 16
@@ -57,29 +57,6 @@ module _ (s : State) (t : List ℕ) (h : 16 ≤ length t) where
   pub afterCiphertext-more : afterCiphertext (length t / 16) s t ≡ afterCiphertext (length (drop 16 t) / 16) (p8 (replace s (take 16 t))) (drop 16 t)
   unfolding afterCiphertext
   afterCiphertext-more = ap (λ n. afterCiphertext n s t) (whole-more 16 t (omega arith) h)
-
-pub same-true : (xs ys : List ℕ) → same xs ys ≡ true → xs ≡ ys
-unfolding same
-same-true [] [] h = refl
-same-true [] (y ∷ ys) h = absurd (both-ways false refl h)
-same-true (x ∷ xs) [] h = absurd (both-ways false refl h)
-same-true (x ∷ xs) (y ∷ ys) h = go (eqb x y) refl h (λ (k : same xs ys ≡ true). same-true xs ys k) where
-  go : (b : Bool) → eqb x y ≡ b → cond b (same xs ys) false ≡ true → (same xs ys ≡ true → xs ≡ ys) → x ∷ xs ≡ y ∷ ys
-  go true e k tail = let heads = eqb-true x y e in let tails = tail k in cc
-  go false e k tail = absurd (both-ways false refl k)
-
-pub same-refl : (xs : List ℕ) → same xs xs ≡ true
-unfolding same
-same-refl [] = refl
-same-refl (x ∷ xs) = let e = eq-eqb x x refl in rw e (same-refl xs)
-
--- a test that is true exactly of equal lists
-pub same-is : (t : Bool) (xs ys : List ℕ) → (t ≡ true → xs ≡ ys) → (xs ≡ ys → t ≡ true) → t ≡ same xs ys
-same-is t xs ys f g = go t (same xs ys) refl refl where
-  go : (a b : Bool) → t ≡ a → same xs ys ≡ b → t ≡ same xs ys
-  go true b p q = p ∙ sym (ap (same xs) (sym (f p)) ∙ same-refl xs)
-  go false true p q = absurd (both-ways t p (g (same-true xs ys q)))
-  go false false p q = p ∙ sym q
 
 -- nothing in either of two
 pub or-nought : (a b : ℕ) → bitOr a b ≡ 0 → (a ≡ 0) × (b ≡ 0)
@@ -166,7 +143,7 @@ pub record OpenedAs (o : Option (List ℕ)) (b : Bool) (out noughts : List ℕ) 
   pub some : b ≡ true → o ≡ Some out
 
 -- what opening comes to, by the tag that was worked out
-module _ (k n a c g : List ℕ) (s f : State) (b : Bool) (start : s ≡ begun k n a) (after : f ≡ afterCiphertext (length c / 16) s c) (compared : b ≡ same (finalized k f) g) where
+module _ (k n a c g : List ℕ) (s f : State) (b : Bool) (start : s ≡ begun k n a) (after : f ≡ afterCiphertext (length c / 16) s c) (compared : b ≡ sameBytes (finalized k f) g) where
   opened-by : opened k n a c g ≡ cond b (Some (decrypted (length c / 16) s c)) None
   unfolding opened
   opened-by = cc

@@ -10,13 +10,15 @@ use lib.ListN.{length, getD, take, drop}
 use Rattle.std.proofs.shelf.Lists.{take-all, length-append, length-drop, length-take-le, take-at, drop-at, take-append-drop, getD-append-left, getD-append-right, getD-take, getD-drop, ext-getD}
 use Rattle.std.proofs.shelf.Tests.{cases-lt}
 use Rattle.std.specs.declared.option.Option.the-variants.{Some, None}
+use Rattle.std.specs.shelf.Text.{sameBytes}
+use Rattle.std.proofs.shelf.Equals.{sameBytes-decides}
 use Rattle.ascon.specs.declared.state.State.{State}
 use Rattle.ascon.specs.Permutation.{p8}
 use Rattle.ascon.specs.Blocks.{Bytes, word, bytes, pad}
-use Rattle.ascon.specs.Aead.{rate, add, replace, encrypted, afterText, decrypted, afterCiphertext, finalized, begun, same, ciphertext, tag, opened}
+use Rattle.ascon.specs.Aead.{rate, add, replace, encrypted, afterText, decrypted, afterCiphertext, finalized, begun, ciphertext, tag, opened}
 use Rattle.ascon.specs.Laws.{Opens, Only, IsSealing}
 use Rattle.ascon.proofs.BlockLaws.{length-bytes, Cut, cut}
-use Rattle.ascon.proofs.AeadLaws.{length-rate, same-true, same-refl}
+use Rattle.ascon.proofs.AeadLaws.{length-rate}
 use Rattle.ascon.proofs.WordLaws.{word-of, byte-word, byte-xor, Bytes-bytes, Bytes-take, Bytes-drop, Bytes-++, Bytes-pad, getD-pad}
 use Rattle.ascon.proofs.StateLaws.{Fits, p8-fits, add-fits, begun-fits}
 
@@ -197,13 +199,13 @@ opens k n a t bk bn ba bt =
     let m : ℕ = length t / 16 in
     let all = text-back m s t (begun-fits k n a bk bn ba) bt (cut-16 t) in
     let long : length (encrypted m s t) ≡ length t = length-encrypted m s t (cut-16 t) in
-    let same-tag : same (finalized k (afterText m s t)) (finalized k (afterText m s t)) ≡ true = same-refl (finalized k (afterText m s t)) in
+    let same-tag : sameBytes (finalized k (afterText m s t)) (finalized k (afterText m s t)) ≡ true = sameBytes-decides (finalized k (afterText m s t)) (finalized k (afterText m s t)) .1 refl in
     rw (long, all .state, same-tag, all .text)
 
 pub only : Only
 unfolding opened ciphertext tag
-only k n a c g t bk bn ba bc e = go (same (finalized k (afterCiphertext (length c / 16) (begun k n a) c)) g) refl e where
-  is : same (finalized k (afterCiphertext (length c / 16) (begun k n a) c)) g ≡ true → IsSealing k n a (decrypted (length c / 16) (begun k n a) c) c g
+only k n a c g t bk bn ba bc e = go (sameBytes (finalized k (afterCiphertext (length c / 16) (begun k n a) c)) g) refl e where
+  is : sameBytes (finalized k (afterCiphertext (length c / 16) (begun k n a) c)) g ≡ true → IsSealing k n a (decrypted (length c / 16) (begun k n a) c) c g
   is p =
       let s : State = begun k n a in
       let m : ℕ = length c / 16 in
@@ -211,10 +213,10 @@ only k n a c g t bk bn ba bc e = go (same (finalized k (afterCiphertext (length 
       let long : length (decrypted m s c) ≡ length c = length-decrypted m s c (cut-16 c) in
       record {
         same-text = rw long (sym (all .text));
-        same-tag = rw (long, all .state) (sym (same-true (finalized k (afterCiphertext m s c)) g p));
+        same-tag = rw (long, all .state) (sym (sameBytes-decides (finalized k (afterCiphertext m s c)) g .0 p));
       }
 
-  go : (b : Bool) → same (finalized k (afterCiphertext (length c / 16) (begun k n a) c)) g ≡ b → cond b (Some (decrypted (length c / 16) (begun k n a) c)) None ≡ Some t → IsSealing k n a t c g
+  go : (b : Bool) → sameBytes (finalized k (afterCiphertext (length c / 16) (begun k n a) c)) g ≡ b → cond b (Some (decrypted (length c / 16) (begun k n a) c)) None ≡ Some t → IsSealing k n a t c g
   go true p q =
       let text : decrypted (length c / 16) (begun k n a) c ≡ t = cc in
       let P : List ℕ → Type 0 = λ x. IsSealing k n a x c g in

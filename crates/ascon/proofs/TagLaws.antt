@@ -1,17 +1,20 @@
 -- Tags compared as two words.
 use Prim.Native.Nat.{ℕ, _+_, _^_, _<_}
 use mathlib.Core.Path.{_≡_, refl, sym, ap, _∙_}
+use mathlib.Core.Bool.{true}
 use mathlib.Core.List.{List, _++_}
 use native.Mathlib.Omega.{arith}
 use lib.Bits.{bitOr, bitXor, xor-self}
 use lib.Dec.{eqb}
 use lib.ListN.{length, take, drop}
 use Rattle.std.proofs.shelf.Lists.{length-drop, take-append-drop, length-take-le, ext-getD}
+use Rattle.std.specs.shelf.Text.{sameBytes}
+use Rattle.std.proofs.shelf.Equals.{sameBytes-decides}
+use Rattle.std.proofs.shelf.Ways.{same-from-decides}
 use Rattle.std.proofs.shelf.Tests.{eqb-true, eq-eqb}
 use Rattle.ascon.specs.Blocks.{Bytes, word, bytes}
-use Rattle.ascon.specs.Aead.{same}
 use Rattle.ascon.proofs.BlockLaws.{length-bytes, word-take}
-use Rattle.ascon.proofs.AeadLaws.{same-is, or-nought, xor-nought}
+use Rattle.ascon.proofs.AeadLaws.{or-nought, xor-nought}
 use Rattle.ascon.proofs.WordLaws.{word-of, byte-word, Bytes-take, Bytes-drop}
 
 -- the bytes of the word of eight bytes
@@ -34,20 +37,21 @@ word-high : (x y : ℕ) → y < 2 ^ 64 → word (drop 8 (bytes x ++ bytes y)) �
 unfolding word bytes
 word-high x y h = word-of y h
 
-pub tag-same : (x y : ℕ) (g : List ℕ) → x < 2 ^ 64 → y < 2 ^ 64 → Bytes g → length g ≡ 16 → eqb (bitOr (bitXor x (word g)) (bitXor y (word (drop 8 g)))) 0 ≡ same (bytes x ++ bytes y) g
-tag-same x y g p q h l =
-    let d : ℕ = bitOr (bitXor x (word g)) (bitXor y (word (drop 8 g))) in
-    same-is (eqb d 0) (bytes x ++ bytes y) g
-    (λ t.
-    let parts = or-nought (bitXor x (word g)) (bitXor y (word (drop 8 g))) (eqb-true d 0 t) in
-    let low = xor-nought x (word g) (parts .0) in
-    let high = xor-nought y (word (drop 8 g)) (parts .1) in
-    let all = bytes-words g h l in
-    cc)
-    (λ e.
-    let low : word g ≡ x = ap word (sym e) ∙ word-low x (bytes y) p in
-    let high : word (drop 8 g) ≡ y = ap (λ (xs : List ℕ). word (drop 8 xs)) (sym e) ∙ word-high x y q in
-    let one : bitXor x x ≡ 0 = xor-self x in
-    let two : bitXor y y ≡ 0 = xor-self y in
-    let none : bitOr 0 0 ≡ 0 = refl in
-    eq-eqb d 0 (cc))
+pub tag-same : (x y : ℕ) (g : List ℕ) → x < 2 ^ 64 → y < 2 ^ 64 → Bytes g → length g ≡ 16 → eqb (bitOr (bitXor x (word g)) (bitXor y (word (drop 8 g)))) 0 ≡ sameBytes (bytes x ++ bytes y) g
+tag-same x y g p q h l = same-from-decides {P = bytes x ++ bytes y ≡ g} (eqb (bitOr (bitXor x (word g)) (bitXor y (word (drop 8 g)))) 0) (sameBytes (bytes x ++ bytes y) g) (equal, nought) (sameBytes-decides (bytes x ++ bytes y) g) where
+  equal : eqb (bitOr (bitXor x (word g)) (bitXor y (word (drop 8 g)))) 0 ≡ true → bytes x ++ bytes y ≡ g
+  equal t =
+      let parts = or-nought (bitXor x (word g)) (bitXor y (word (drop 8 g))) (eqb-true (bitOr (bitXor x (word g)) (bitXor y (word (drop 8 g)))) 0 t) in
+      let low = xor-nought x (word g) (parts .0) in
+      let high = xor-nought y (word (drop 8 g)) (parts .1) in
+      let all = bytes-words g h l in
+      cc
+
+  nought : bytes x ++ bytes y ≡ g → eqb (bitOr (bitXor x (word g)) (bitXor y (word (drop 8 g)))) 0 ≡ true
+  nought e =
+      let low : word g ≡ x = ap word (sym e) ∙ word-low x (bytes y) p in
+      let high : word (drop 8 g) ≡ y = ap (λ (xs : List ℕ). word (drop 8 xs)) (sym e) ∙ word-high x y q in
+      let one : bitXor x x ≡ 0 = xor-self x in
+      let two : bitXor y y ≡ 0 = xor-self y in
+      let none : bitOr 0 0 ≡ 0 = refl in
+      eq-eqb (bitOr (bitXor x (word g)) (bitXor y (word (drop 8 g)))) 0 (cc)

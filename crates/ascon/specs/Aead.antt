@@ -1,10 +1,10 @@
 -- Ascon-AEAD128: authenticated encryption with associated data.
 use Prim.Native.Nat.{ℕ, zero, suc, _/_}
-use mathlib.Core.Bool.{Bool, true, false, cond}
+use mathlib.Core.Bool.{cond}
 use mathlib.Core.List.{List, [], _∷_, _++_}
 use lib.Bits.{bitXor}
-use lib.Dec.{eqb}
 use lib.ListN.{length, take, drop}
+use Rattle.std.specs.shelf.Text.{sameBytes}
 use Rattle.std.specs.declared.option.Option.{Option}
 use Rattle.std.specs.declared.option.Option.the-variants.{Some, None}
 use Rattle.ascon.specs.declared.state.State.{State}
@@ -77,13 +77,6 @@ afterCiphertext (suc n) s c = afterCiphertext n (p8 (replace s (take 16 c))) (dr
 unfoldable pub finalized : List ℕ → State → List ℕ
 finalized k s = let f = addKeyLow k (p12 (addKeyHigh k s)) in bytes (f .x3) ++ bytes (f .x4)
 
--- whether two lists of numbers are equal
-unfoldable pub same : List ℕ → List ℕ → Bool
-same [] [] = true
-same [] (y ∷ ys) = false
-same (x ∷ xs) [] = false
-same (x ∷ xs) (y ∷ ys) = cond (eqb x y) (same xs ys) false
-
 -- the ciphertext of a text t under key k, nonce n and associated data a
 unfoldable pub ciphertext : List ℕ → List ℕ → List ℕ → List ℕ → List ℕ
 ciphertext k n a t = encrypted (length t / 16) (begun k n a) t
@@ -94,4 +87,4 @@ tag k n a t = finalized k (afterText (length t / 16) (begun k n a) t)
 
 -- the text of a ciphertext c, if its tag is g
 unfoldable pub opened : List ℕ → List ℕ → List ℕ → List ℕ → List ℕ → Option (List ℕ)
-opened k n a c g = cond (same (finalized k (afterCiphertext (length c / 16) (begun k n a) c)) g) (Some (decrypted (length c / 16) (begun k n a) c)) None
+opened k n a c g = cond (sameBytes (finalized k (afterCiphertext (length c / 16) (begun k n a) c)) g) (Some (decrypted (length c / 16) (begun k n a) c)) None

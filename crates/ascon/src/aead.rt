@@ -5,13 +5,14 @@ ghost use mathlib.Core.Path.{_≡_};
 ghost use Prim.Native.Nat.{_/_, _<_};
 ghost use lib.ListN.{length, replicate};
 ghost use mathlib.Core.Bool.{true};
+ghost use Rattle.std.specs.shelf.Text.{sameBytes};
 ghost use Rattle.std.specs.Options.{isSome, valueOr};
 ghost use Rattle.std.specs.declared.option.Option.the-variants.{Some};
 ghost use Rattle.ascon.specs.Laws.{IsSealing};
 ghost use Rattle.ascon.specs.Blocks.{pad, padded};
 ghost use mathlib.Core.List.{[]};
 ghost use Rattle.ascon.specs.Permutation.{p12 as permuted12};
-ghost use Rattle.ascon.specs.Aead.{rate as rateOf, add as added, replace as replaced, addKeyHigh as keyAddedHigh, addKeyLow as keyAddedLow, initialized, absorbed, withData, separated, begun, encrypted, afterText, decrypted, afterCiphertext, finalized, same, ciphertext, tag as tagOf, opened};
+ghost use Rattle.ascon.specs.Aead.{rate as rateOf, add as added, replace as replaced, addKeyHigh as keyAddedHigh, addKeyLow as keyAddedLow, initialized, absorbed, withData, separated, begun, encrypted, afterText, decrypted, afterCiphertext, finalized, ciphertext, tag as tagOf, opened};
 use crate::blocks::are_bytes;
 use crate::blocks::is_pair;
 use crate::blocks::keep_if;
@@ -202,7 +203,7 @@ impl State {
 
     // Whether `tag` is the tag; the one that would be right is never written to memory.
     fn has_tag(self, key: &[u8; 16], tag: &[u8; 16]) -> bool
-        ensures { λ r. ⌜ r ≡ same (finalized (now (key .entry)) self) (now (tag .entry)) ⌝ }
+        ensures { λ r. ⌜ r ≡ sameBytes (finalized (now (key .entry)) self) (now (tag .entry)) ⌝ }
     {
         let s = self.finish(key);
         is_pair(tag, s.x3, s.x4)

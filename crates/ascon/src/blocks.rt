@@ -6,7 +6,7 @@ ghost use mathlib.Core.Bool.{cond};
 ghost use mathlib.Core.List.{_∷_, _++_};
 ghost use lib.Bits.{bitOr, bitXor};
 ghost use lib.ListN.{length, drop, replicate};
-ghost use Rattle.ascon.specs.Aead.{same};
+ghost use Rattle.std.specs.shelf.Text.{sameBytes};
 ghost use Rattle.ascon.specs.Blocks.{Bytes, word, bytes, pad};
 
 // Does nothing, and says of a slice's bytes for the theorems that each is below 256.
@@ -52,7 +52,7 @@ fn difference(b: &[u8; 16], low: u64, high: u64) -> u64
 // Whether sixteen bytes are those of two words: all of them are looked at, whatever they are, with
 // no early exit and no branch.
 pub(crate) fn is_pair(b: &[u8; 16], low: u64, high: u64) -> bool
-    ensures { λ r. ⌜ r ≡ same (bytes low ++ bytes high) (now (b .entry)) ⌝ }
+    ensures { λ r. ⌜ r ≡ sameBytes (bytes low ++ bytes high) (now (b .entry)) ⌝ }
 {
     are_bytes(b);
     difference(b, low, high) == 0
@@ -79,7 +79,7 @@ pub(crate) fn put_padded(block: &mut [u8], tail: &[u8])
     put_last(block, tail, PAD);
 }
 
-pub(crate) fn clear(b: &mut [u8])
+fn clear(b: &mut [u8])
     ensures { λ _. ⌜ now (b .exit) ≡ replicate (length (now (b .entry))) 0 ⌝ }
 {
     b.fill(0);
