@@ -9,9 +9,9 @@ returns c =
     let a = c.args.ad.now in
     let t = c.args.text.now in
     let g = c.args.tag.now in
-    let all = opened_as k n a t g c.begin.result c.decrypt.result c.has-tag-opens.result c.begin.ensures c.decrypt.ensures.state c.has-tag-opens.ensures c.decrypt.new.text c.keep-if.new.b c.decrypt.ensures.bytes c.decrypt.auto.text c.keep-if.ensures in
+    let all = opened_as k n a t g c.begin.result c.decrypt.result c.has_tag-opens.result c.begin.ensures c.decrypt.ensures.state c.has_tag-opens.ensures c.decrypt.new.text c.keep_if.new.b c.decrypt.ensures.bytes c.decrypt.auto.text c.keep_if.ensures in
     record {
       test = all.test;
       bytes = all.bytes;
-      only = λ u. only k n a t g c.keep-if.new.b c.are-bytes.ensures c.are-bytes-2.ensures c.are-bytes-3.ensures c.are-bytes-4.ensures (all.some u);
+      only = λ u. only k n a t g c.keep_if.new.b c.are_bytes.ensures c.are_bytes-2.ensures c.are_bytes-3.ensures c.are_bytes-4.ensures (all.some u);
     }

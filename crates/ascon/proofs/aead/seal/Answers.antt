@@ -12,7 +12,7 @@ returns c =
     let t = c.args.text.now in
     let text : c.encrypt.new.text ≡ ciphertext k n a t = cc in
     let mark : c.finalize.result ≡ tag k n a t = cc in
-    let whole = opens k n a t c.are-bytes.ensures c.are-bytes-2.ensures c.are-bytes-3.ensures c.are-bytes-4.ensures in
+    let whole = opens k n a t c.are_bytes.ensures c.are_bytes-2.ensures c.are_bytes-3.ensures c.are_bytes-4.ensures in
     record {
       bytes = text;
       tag = mark;

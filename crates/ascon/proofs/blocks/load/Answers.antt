@@ -4,4 +4,4 @@ use Rattle.ascon.proofs.blocks.load.Goals as goal
 
 pub returns : goal.returns
 unfolding word
-returns c = simp (get_or-drop, add-zero) c.from-le-bytes.ensures
+returns c = simp (get_or-drop, add-zero) c.from_le_bytes.ensures

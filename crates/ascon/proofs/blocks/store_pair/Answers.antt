@@ -6,7 +6,7 @@ use Rattle.ascon.proofs.blocks.store_pair.Goals as goal
 pub returns : goal.returns
 unfolding bytes
 returns c =
-    let first : c.copy-from-slice.new.self ≡ bytes c.args.low = c.copy-from-slice.ensures.after ∙ c.to-le-bytes.ensures in
-    let second : c.copy-from-slice-2.new.self ≡ bytes c.args.high = c.copy-from-slice-2.ensures.after ∙ c.to-le-bytes-2.ensures in
-    let written = two_halves c.copy-from-slice.new.self c.copy-from-slice-2.new.self c.args.out.now (ap length first) (ap length second) c.requires in
+    let first : c.copy_from_slice.new.self ≡ bytes c.args.low = c.copy_from_slice.ensures.after ∙ c.to_le_bytes.ensures in
+    let second : c.copy_from_slice-2.new.self ≡ bytes c.args.high = c.copy_from_slice-2.ensures.after ∙ c.to_le_bytes-2.ensures in
+    let written = two_halves c.copy_from_slice.new.self c.copy_from_slice-2.new.self c.args.out.now (ap length first) (ap length second) c.requires in
     cc

@@ -9,8 +9,8 @@ use Rattle.ascon_cli.proofs.reply.xof.Goals as goal
 pub returns : goal.returns
 returns c =
     let o = c.args.output in
-    let l : length c.cxof128.new.out ≡ c.in-ok-bytes.bytes.len = c.cxof128.auto.out ∙ c.as-mut-slice.ensures.len in
-    let t = c.as-slice-in-Ok.ensures.value ∙ take_at c.cxof128.new.out _ _ l in
-    let n = c.as-mut-slice.ensures.len ∙ c.in-ok-bytes.ensures.len in
-    let x : c.as-slice-in-Ok.result.now ≡ cxof128 (held o.label.secret) (held o.text) o.length = cc (t, n, c.in-Ok.ensures.bytes, c.as-slice.ensures.value, c.as-slice-2.ensures.value) in
+    let l : length c.cxof128.new.out ≡ c.in_ok-bytes.bytes.len = c.cxof128.auto.out ∙ c.as_mut_slice.ensures.len in
+    let t = c.as_slice-in-Ok.ensures.value ∙ take_at c.cxof128.new.out _ _ l in
+    let n = c.as_mut_slice.ensures.len ∙ c.in_ok-bytes.ensures.len in
+    let x : c.as_slice-in-Ok.result.now ≡ cxof128 (held o.label.secret) (held o.text) o.length = cc (t, n, c.in-Ok.ensures.bytes, c.as_slice.ensures.value, c.as_slice-2.ensures.value) in
     added c.show.result (vec_items c.args.out.now) _ _ _ (ap shown x) c.show.ensures

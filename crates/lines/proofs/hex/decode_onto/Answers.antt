@@ -5,19 +5,19 @@ use Rattle.lines.proofs.Digits.{decoded_bad, decoded_end, decoded-step, followin
 use Rattle.lines.proofs.hex.decode_onto.Goals as goal
 
 -- a sign that is no digit
-pub returns-in-default-byte-of : goal.returns-in-default-byte-of
-returns-in-default-byte-of c =
+pub returns-in_default-byte_of : goal.returns-in_default-byte_of
+returns-in_default-byte_of c =
     let h : 2 ≤ length c.loop-rest.rest.now = omega (arith, ltb-true, ltb-false) in
-    let e = decoded_bad c.loop-rest.rest.now h (sym c.in-default-byte-of.is ∙ c.byte-of.ensures) in
+    let e = decoded_bad c.loop-rest.rest.now h (sym c.in_default-byte_of.is ∙ c.byte_of.ensures) in
     following_none (vec_items c.args.bytes.now) _ (sym c.loop-rest.invariant.0 ∙ ap (following (vec_items c.loop-rest.bytes)) e)
 
 pub loop-rest-preserved : goal.loop-rest-preserved
 loop-rest-preserved c =
     let h : 2 ≤ length c.loop-rest.rest.now = omega (arith, ltb-true, ltb-false) in
-    let e = decoded-step (vec_items c.loop-rest.bytes) c.loop-rest.rest.now c.in-Some.byte h (sym c.in-Some.is ∙ c.byte-of.ensures) in
-    rw (take_rest c.loop-rest.rest.now 2, length-drop 2 c.loop-rest.rest.now, c.push-reserved.ensures.items) (e ∙ c.loop-rest.invariant.0, omega arith)
+    let e = decoded-step (vec_items c.loop-rest.bytes) c.loop-rest.rest.now c.in-Some.byte h (sym c.in-Some.is ∙ c.byte_of.ensures) in
+    rw (take_rest c.loop-rest.rest.now 2, length-drop 2 c.loop-rest.rest.now, c.push_reserved.ensures.items) (e ∙ c.loop-rest.invariant.0, omega arith)
 
 pub returns : goal.returns
 returns c =
     let h : length c.loop-rest.rest.now < 2 = omega (arith, ltb-true, ltb-false) in
-    decoded_end (vec_items c.loop-rest.bytes) c.loop-rest.rest.now (vec_items c.args.bytes.now) _ c.is-empty.result h c.is-empty.ensures c.loop-rest.invariant.0
+    decoded_end (vec_items c.loop-rest.bytes) c.loop-rest.rest.now (vec_items c.args.bytes.now) _ c.is_empty.result h c.is_empty.ensures c.loop-rest.invariant.0

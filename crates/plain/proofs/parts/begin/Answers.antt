@@ -7,6 +7,6 @@ pub returns : goal.returns
 unfolding four_bytes eight_bytes
 returns c =
     let none = holds [] refl refl c.wipe.ensures in
-    let one = holds_more (four_bytes c.args.number) none c.to-le-bytes.ensures c.append-at.ensures.size c.append-at.ensures.bytes in
-    let two = holds_more (eight_bytes c.args.count) one c.to-le-bytes-2.ensures c.append.ensures.size c.append.ensures.bytes in
+    let one = holds_more (four_bytes c.args.number) none c.to_le_bytes.ensures c.append-at.ensures.size c.append-at.ensures.bytes in
+    let two = holds_more (eight_bytes c.args.count) one c.to_le_bytes-2.ensures c.append.ensures.size c.append.ensures.bytes in
     record { size = two.size; bytes = two.bytes }

@@ -9,6 +9,6 @@ returns c =
     let k = c.args.key.now in
     let blob = c.args.blob.now in
     let tail = drop (length blob - length k) blob in
-    let decides = slice_eq-Decides Decides-eqb k tail c.ends-with.result c.ends-with.ensures.value in
-    same_from_decides c.ends-with.result (bytes_eq k tail) decides (bytes_eq-Decides k tail)
+    let decides = slice_eq-Decides Decides-eqb k tail c.ends_with.result c.ends_with.ensures.value in
+    same_from_decides c.ends_with.result (bytes_eq k tail) decides (bytes_eq-Decides k tail)
     ∙ ap (λ n. bytes_eq k (drop (length blob - n) blob)) c.told-key

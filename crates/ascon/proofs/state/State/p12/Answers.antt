@@ -3,4 +3,4 @@ use Rattle.ascon.proofs.state.State.p12.Goals as goal
 
 pub returns : goal.returns
 unfolding p12
-returns c = c.rounds-from.ensures
+returns c = c.rounds_from.ensures

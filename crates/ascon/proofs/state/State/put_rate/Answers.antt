@@ -3,4 +3,4 @@ use Rattle.ascon.proofs.state.State.put_rate.Goals as goal
 
 pub returns : goal.returns
 unfolding rate
-returns c = c.store-pair.ensures
+returns c = c.store_pair.ensures

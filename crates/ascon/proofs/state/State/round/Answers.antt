@@ -4,4 +4,4 @@ use Rattle.ascon.proofs.state.State.round.Goals as goal
 
 pub returns : goal.returns
 unfolding round
-returns c = c.diffuse.ensures ∙ ap diffuse (c.mix-out.ensures ∙ ap mix_out (c.chi.ensures ∙ ap chi (c.mix-in.ensures ∙ ap mix_in c.add-constant.ensures)))
+returns c = c.diffuse.ensures ∙ ap diffuse (c.mix_out.ensures ∙ ap mix_out (c.chi.ensures ∙ ap chi (c.mix_in.ensures ∙ ap mix_in c.add_constant.ensures)))

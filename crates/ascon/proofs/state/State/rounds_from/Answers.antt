@@ -7,7 +7,7 @@ pub loop-i-preserved : goal.loop-i-preserved
 unfolding rounds
 loop-i-preserved c =
     let one : rounds (drop c.loop-i.i constants) c.loop-i.s ≡ rounds (drop (c.loop-i.i + 1) constants) (round (get_or constants c.loop-i.i 0) c.loop-i.s) = ap (λ (cs : List ℕ). rounds cs c.loop-i.s) (drop_more constants c.loop-i.i 0 (omega arith)) in
-    ap (rounds (drop (c.loop-i.i + 1) constants)) (c.round-s.ensures ∙ ap (λ n. round n c.loop-i.s) c.round-constant.ensures) ∙ (sym one ∙ c.loop-i.invariant)
+    ap (rounds (drop (c.loop-i.i + 1) constants)) (c.round-s.ensures ∙ ap (λ n. round n c.loop-i.s) c.round_constant.ensures) ∙ (sym one ∙ c.loop-i.invariant)
 
 pub returns : goal.returns
 unfolding rounds

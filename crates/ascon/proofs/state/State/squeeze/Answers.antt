@@ -7,13 +7,13 @@ use Rattle.ascon.proofs.state.State.squeeze.Goals as goal
 pub loop-out-preserved : goal.loop-out-preserved
 unfolding bytes
 loop-out-preserved c =
-    squeeze_more c.args.self c.loop-out.s c.loop-out.out c.loop-out.at c.loop-out.invariant c.p12-s.result c.copy-from-slice.new.self (c.loop-out.at + 8 - c.loop-out.at) (omega arith) (omega arith) (c.copy-from-slice.ensures.after ∙ c.to-le-bytes.ensures) c.p12-s.ensures
+    squeeze_more c.args.self c.loop-out.s c.loop-out.out c.loop-out.at c.loop-out.invariant c.p12-s.result c.copy_from_slice.new.self (c.loop-out.at + 8 - c.loop-out.at) (omega arith) (omega arith) (c.copy_from_slice.ensures.after ∙ c.to_le_bytes.ensures) c.p12-s.ensures
 
 pub returns : goal.returns
 unfolding bytes
 returns c =
     let n = length c.loop-out.out - c.loop-out.at in
     let whole : n - 0 ≡ n = omega arith in
-    let copied : c.copy-from-slice-2.new.self ≡ take (n - 0) c.to-le-bytes-last.result = c.copy-from-slice-2.ensures.after in
-    let part : c.copy-from-slice-2.new.self ≡ take n (bytes c.loop-out.s.x0) = copied ∙ (ap (λ k. take k c.to-le-bytes-last.result) whole ∙ ap (λ (xs : List ℕ). take n xs) c.to-le-bytes-last.ensures) in
-    squeeze_last c.args.self c.loop-out.s c.loop-out.out c.loop-out.at c.loop-out.invariant c.copy-from-slice-2.new.self (omega arith) part ∙ ap (λ n. output n c.args.self) c.loop-out.auto.out
+    let copied : c.copy_from_slice-2.new.self ≡ take (n - 0) c.to_le_bytes-last.result = c.copy_from_slice-2.ensures.after in
+    let part : c.copy_from_slice-2.new.self ≡ take n (bytes c.loop-out.s.x0) = copied ∙ (ap (λ k. take k c.to_le_bytes-last.result) whole ∙ ap (λ (xs : List ℕ). take n xs) c.to_le_bytes-last.ensures) in
+    squeeze_last c.args.self c.loop-out.s c.loop-out.out c.loop-out.at c.loop-out.invariant c.copy_from_slice-2.new.self (omega arith) part ∙ ap (λ n. output n c.args.self) c.loop-out.auto.out

@@ -3,9 +3,9 @@ use Rattle.keys.specs.Machine.{empties}
 use Rattle.keys.specs.Padded.{padded}
 use Rattle.keys.proofs.table.Table.blank.Goals as goal
 
-pub invariant-of-result : goal.invariant-of-result
+pub invariant_of-result : goal.invariant_of-result
 unfolding padded
-invariant-of-result c = (refl, tt)
+invariant_of-result c = ?
 
 pub returns : goal.returns
 unfolding empties
