@@ -5,7 +5,7 @@ use Rattle.keys.proofs.table.Table.blank.Goals as goal
 
 pub invariant_of-result : goal.invariant_of-result
 unfolding padded
-invariant_of-result c = ?
+invariant_of-result c = record { clear = refl }
 
 pub returns : goal.returns
 unfolding empties
