@@ -2,7 +2,7 @@
 
 ghost use Rattle.std.specs.Prelude.{◌≡◌, ◌-◌, ◌≤◌, length, drop, Some, None, MatchOption, OnOk};
 ghost use Rattle.ascon_cli.specs.Errors.{Grew, Reports};
-ghost use Rattle.ascon_cli.specs.Format.{reply, result, shown, unsealed};
+ghost use Rattle.ascon_cli.specs.Format.{reply, result_of, shown, unsealed};
 ghost use Rattle.ascon_cli.specs.Views.{asked_of, held, output_of, parts_of};
 ghost use Rattle.ascon_cli.specs.Format.{hashing, opening, sealing};
 
@@ -14,7 +14,7 @@ use std::alloc::{AllocError, Global};
 
 /// Adds the answer to `line`, without a newline, to `out`.
 pub fn answer(heap: Global, line: &[u8], out: &mut Vec<u8>) -> Result<(), AllocError>
-    ensures* { λ r. ⌜ Grew r out.old out.new (reply line.now) ⌝ }
+    ensures { Grew result out.old out.new (reply line.now) }
 {
     match read_request(heap, line) {
         Ok(request) => perform(heap, request, out),
@@ -24,7 +24,7 @@ pub fn answer(heap: Global, line: &[u8], out: &mut Vec<u8>) -> Result<(), AllocE
 
 // The program goes on after a line that cannot be read, and not for want of memory.
 fn report(fault: Fault, out: &mut Vec<u8>) -> Result<(), AllocError>
-    ensures* { λ r. ⌜ OnOk r (Reports fault out.old.items out.new.items) ⌝ }
+    ensures { OnOk result (Reports fault out.old.items out.new.items) }
 {
     match fault {
         Fault::Line(error) => out.extend_from_slice(error.message()),
@@ -33,7 +33,7 @@ fn report(fault: Fault, out: &mut Vec<u8>) -> Result<(), AllocError>
 }
 
 fn perform(heap: Global, request: Request, out: &mut Vec<u8>) -> Result<(), AllocError>
-    ensures* { λ r. ⌜ Grew r out.old out.new (result (asked_of request)) ⌝ }
+    ensures { Grew result out.old out.new (result_of (asked_of request)) }
 {
     match request {
         Request::Seal(packet) => seal(packet, out),
@@ -44,7 +44,7 @@ fn perform(heap: Global, request: Request, out: &mut Vec<u8>) -> Result<(), Allo
 }
 
 fn seal(packet: Packet, out: &mut Vec<u8>) -> Result<(), AllocError>
-    ensures* { λ r. ⌜ Grew r out.old out.new (result (sealing (parts_of packet))) ⌝ }
+    ensures { Grew result out.old out.new (result_of (sealing (parts_of packet))) }
 {
     let Packet {
         key,
@@ -63,7 +63,7 @@ fn seal(packet: Packet, out: &mut Vec<u8>) -> Result<(), AllocError>
 }
 
 fn open(packet: Packet, out: &mut Vec<u8>) -> Result<(), AllocError>
-    ensures* { λ r. ⌜ Grew r out.old out.new (result (opening (parts_of packet))) ⌝ }
+    ensures { Grew result out.old out.new (result_of (opening (parts_of packet))) }
 {
     match unseal(packet) {
         Some(text) => show(text.bytes.as_slice(), out),
@@ -73,7 +73,7 @@ fn open(packet: Packet, out: &mut Vec<u8>) -> Result<(), AllocError>
 
 // The text that was sealed, if the last 16 bytes are its tag.
 fn unseal(packet: Packet) -> Option<Secret>
-    ensures* { λ r. ⌜ MatchOption r (unsealed (parts_of packet) ≡ None) (λ s. unsealed (parts_of packet) ≡ Some (held s)) ⌝ }
+    ensures { MatchOption result (unsealed (parts_of packet) ≡ None) (λ s. unsealed (parts_of packet) ≡ Some (held s)) }
 {
     let Packet {
         key,
@@ -100,7 +100,7 @@ fn unseal(packet: Packet) -> Option<Secret>
 }
 
 fn hash(text: Secret, out: &mut Vec<u8>) -> Result<(), AllocError>
-    ensures* { λ r. ⌜ Grew r out.old out.new (result (hashing (held text))) ⌝ }
+    ensures { Grew result out.old out.new (result_of (hashing (held text))) }
 {
     let mut digest = [0; 32];
     ascon::hash256(text.bytes.as_slice(), &mut digest);
@@ -108,7 +108,7 @@ fn hash(text: Secret, out: &mut Vec<u8>) -> Result<(), AllocError>
 }
 
 fn xof(heap: Global, output: Output, out: &mut Vec<u8>) -> Result<(), AllocError>
-    ensures* { λ r. ⌜ Grew r out.old out.new (result (output_of output)) ⌝ }
+    ensures { Grew result out.old out.new (result_of (output_of output)) }
 {
     let mut bytes = vec![in heap; 0; output.length]?;
     match ascon::cxof128(
@@ -123,7 +123,7 @@ fn xof(heap: Global, output: Output, out: &mut Vec<u8>) -> Result<(), AllocError
 
 // Adds the digits of `bytes`, or a dash if there are none.
 fn show(bytes: &[u8], out: &mut Vec<u8>) -> Result<(), AllocError>
-    ensures* { λ r. ⌜ Grew r out.old out.new (shown bytes.now) ⌝ }
+    ensures { Grew result out.old out.new (shown bytes.now) }
 {
     if bytes.is_empty() {
         return out.extend_from_slice(b"-");
@@ -133,7 +133,7 @@ fn show(bytes: &[u8], out: &mut Vec<u8>) -> Result<(), AllocError>
 
 fn last_sixteen(bytes: &[u8]) -> [u8; 16]
     requires { 16 ≤ length bytes.now }
-    ensures* { λ r. ⌜ r ≡ drop (length bytes.now - 16) bytes.now ⌝ }
+    ensures { result ≡ drop (length bytes.now - 16) bytes.now }
 {
     match <[u8; 16]>::try_from(&bytes[bytes.len() - 16..]) {
         Ok(tag) => tag,

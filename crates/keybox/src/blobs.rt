@@ -25,7 +25,7 @@ fn wrap_into<C: Cipher>(
     key: &[u8; 16],
     out: &mut [u8; 1052],
 ) -> usize
-    ensures { Holds ((alg cipher.now).wrap under.now (stamp_for number count) tag key.now) result out.new }
+    ensures { Holds ((C.alg cipher.now).wrap under.now (stamp_for number count) tag key.now) result out.new }
 {
     cipher.wrap(under, number, count, tag.role.number(), tag.stays, key, out)
 }
@@ -40,7 +40,7 @@ fn seal_into<C: Cipher>(
     out: &mut [u8; 1052],
 ) -> usize
     requires { length text.now ≤ 1024 }
-    ensures { Holds ((alg cipher.now).seal key.now (stamp_for number count) text.now) result out.new }
+    ensures { Holds ((C.alg cipher.now).seal key.now (stamp_for number count) text.now) result out.new }
 {
     cipher.seal(key, number, count, text, out)
 }
@@ -56,7 +56,7 @@ fn spend_on_key<C: Cipher>(
     out: &mut [u8; 1052],
 ) -> usize
     requires { (at < capacity) × (under < capacity) }
-    ensures { Holds ((alg cipher.now).wrap (key_at under table.now.places) (stamp_of stamp) tag (key_at at table.now.places)) result out.new }
+    ensures { Holds ((C.alg cipher.now).wrap (key_at under table.now.places) (stamp_of stamp) tag (key_at at table.now.places)) result out.new }
 {
     let (number, count) = stamp.spend();
     wrap_into(
@@ -79,7 +79,7 @@ fn spend_on_text<C: Cipher>(
     out: &mut [u8; 1052],
 ) -> usize
     requires { length text.now ≤ 1024 }
-    ensures { Holds ((alg cipher.now).seal key.now (stamp_of stamp) text.now) result out.new }
+    ensures { Holds ((C.alg cipher.now).seal key.now (stamp_of stamp) text.now) result out.new }
 {
     let (number, count) = stamp.spend();
     seal_into(cipher, key, number, count, text, out)
@@ -92,7 +92,7 @@ fn unseal_into<C: Cipher>(
     blob: &[u8],
     out: &mut [u8; 1052],
 ) -> Option<usize>
-    ensures { Unseals ((alg cipher.now).unseal key.now blob.now) result out.new }
+    ensures { Unseals ((C.alg cipher.now).unseal key.now blob.now) result out.new }
 {
     let code = cipher.unseal(key, blob, out);
     if code == 0 {
@@ -103,7 +103,7 @@ fn unseal_into<C: Cipher>(
 
 // Writes what goes with a key and a text.
 fn mark_into<C: Cipher>(cipher: &C, key: &[u8; 16], text: &[u8], out: &mut [u8; 16])
-    ensures { out.new ≡ (alg cipher.now).mark key.now text.now }
+    ensures { out.new ≡ (C.alg cipher.now).mark key.now text.now }
 {
     cipher.mark(key, text, out);
 }
@@ -118,7 +118,7 @@ impl Device {
         under: u8,
         out: &mut [u8; 1052],
     ) -> Result<usize, Refusal>
-        ensures does { does (alg cipher.now) (to_wrap at under) (state_of self.old.table) ≡ record { box = state_of self.new.table; answer = blob_answer result out.new } }
+        ensures does { does (C.alg cipher.now) (to_wrap at under) (state_of self.old.table) ≡ record { box = state_of self.new.table; answer = blob_answer result out.new } }
         ensures filled { Filled result out.new }
         ensures fits { Fits result }
     {
@@ -140,7 +140,7 @@ impl Device {
         out: &mut [u8; 1052],
     ) -> Result<usize, Refusal>
         requires { length text.now ≤ 1024 }
-        ensures does { does (alg cipher.now) (to_seal at text.now) (state_of self.old.table) ≡ record { box = state_of self.new.table; answer = blob_answer result out.new } }
+        ensures does { does (C.alg cipher.now) (to_seal at text.now) (state_of self.old.table) ≡ record { box = state_of self.new.table; answer = blob_answer result out.new } }
         ensures filled { Filled result out.new }
         ensures fits { Fits result }
     {
@@ -159,7 +159,7 @@ impl Device {
         blob: &[u8],
         out: &mut [u8; 1052],
     ) -> Result<usize, Refusal>
-        ensures does { does (alg cipher.now) (to_open at blob.now) (state_of self.now.table) ≡ record { box = state_of self.now.table; answer = blob_answer result out.new } }
+        ensures does { does (C.alg cipher.now) (to_open at blob.now) (state_of self.now.table) ≡ record { box = state_of self.now.table; answer = blob_answer result out.new } }
         ensures filled { Filled result out.new }
         ensures fits { Fits result }
     {
@@ -180,7 +180,7 @@ impl Device {
         text: &[u8],
         out: &mut [u8; 16],
     ) -> Result<(), Refusal>
-        ensures does { does (alg cipher.now) (to_mark at text.now) (state_of self.now.table) ≡ record { box = state_of self.now.table; answer = key_answer result out.new } }
+        ensures does { does (C.alg cipher.now) (to_mark at text.now) (state_of self.now.table) ≡ record { box = state_of self.now.table; answer = key_answer result out.new } }
         ensures wiped { Wiped result out.new }
     {
         wipe(out);

@@ -28,15 +28,15 @@ const HOUSE: u8 = 63;
 
 // Writes the house key.
 fn house_into<C: Cipher>(cipher: &C, out: &mut [u8; 16])
-    ensures { out.new ≡ (alg cipher.now).house }
+    ensures { out.new ≡ (C.alg cipher.now).house }
 {
     cipher.house(out);
 }
 
 // Writes the next key of box `number`.
 fn draw_into<C: Cipher>(cipher: &mut C, number: u32, drawn: u64, out: &mut [u8; 16])
-    ensures same { alg cipher.new ≡ alg cipher.old }
-    ensures bytes { out.new ≡ (alg cipher.old).draw number drawn }
+    ensures same { C.alg cipher.new ≡ C.alg cipher.old }
+    ensures bytes { out.new ≡ (C.alg cipher.old).draw number drawn }
 {
     cipher.draw(number, drawn, out);
 }
@@ -44,7 +44,7 @@ fn draw_into<C: Cipher>(cipher: &mut C, number: u32, drawn: u64, out: &mut [u8; 
 impl Device {
     /// A new box.
     pub fn start<C: Cipher>(cipher: &C, number: u32) -> Device
-        ensures { state_of result.table ≡ fresh (alg cipher.now) number }
+        ensures { state_of result.table ≡ fresh (C.alg cipher.now) number }
     {
         let mut device = Device {
             table: Table::blank(number),
@@ -56,7 +56,7 @@ impl Device {
 
     /// Makes this a new box; what it held is wiped.
     pub fn start_in<C: Cipher>(&mut self, cipher: &C, number: u32)
-        ensures { state_of self.new.table ≡ fresh (alg cipher.now) number }
+        ensures { state_of self.new.table ≡ fresh (C.alg cipher.now) number }
     {
         self.table.clear(number);
         self.put_house(cipher);
@@ -64,7 +64,7 @@ impl Device {
 
     // The house key is a wrapper that stays.
     fn put_house<C: Cipher>(&mut self, cipher: &C)
-        ensures { state_of self.new.table ≡ put_at 63 (full_place (house_slot (alg cipher.now))) (state_of self.old.table) }
+        ensures { state_of self.new.table ≡ put_at 63 (full_place (house_slot (C.alg cipher.now))) (state_of self.old.table) }
     {
         house_into(cipher, &mut self.spare.bytes);
         self.table.put(
@@ -80,8 +80,8 @@ impl Device {
 
     /// Draws a key, if there is a place for it.
     pub fn make<C: Cipher>(&mut self, cipher: &mut C, tag: Tag) -> Result<u8, Refusal>
-        ensures does { does (alg cipher.old) (to_make tag) (state_of self.old.table) ≡ record { box = state_of self.new.table; answer = place_answer result } }
-        ensures same { alg cipher.new ≡ alg cipher.old }
+        ensures does { does (C.alg cipher.old) (to_make tag) (state_of self.old.table) ≡ record { box = state_of self.new.table; answer = place_answer result } }
+        ensures same { C.alg cipher.new ≡ C.alg cipher.old }
     {
         let at = self.table.first_empty()?;
         let drawn = self.table.next_draw()?;

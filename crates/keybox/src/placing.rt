@@ -34,15 +34,15 @@ fn unwrap_into<C: Cipher>(
     blob: &[u8],
     out: &mut [u8; 16],
 ) -> Option<Tag>
-    ensures slot { slot_for result out.new ≡ (alg cipher.now).unwrap under.now blob.now }
-    ensures bytes { out.new ≡ padded 16 (unwrapped_key ((alg cipher.now).unwrap under.now blob.now)) }
+    ensures slot { slot_for result out.new ≡ (C.alg cipher.now).unwrap under.now blob.now }
+    ensures bytes { out.new ≡ padded 16 (unwrapped_key ((C.alg cipher.now).unwrap under.now blob.now)) }
 {
     tag_of_code(cipher.unwrap(under, blob, out))
 }
 
 // Writes the key that goes with a base, a label and a role.
 fn derive_into<C: Cipher>(cipher: &C, base: &[u8; 16], label: u8, role: Role, out: &mut [u8; 16])
-    ensures { out.new ≡ (alg cipher.now).derive base.now label role }
+    ensures { out.new ≡ (C.alg cipher.now).derive base.now label role }
 {
     cipher.derive(base, label, role.number(), out);
 }
@@ -50,7 +50,7 @@ fn derive_into<C: Cipher>(cipher: &C, base: &[u8; 16], label: u8, role: Role, ou
 // Places a key that was unwrapped. A blob that says that its key stays is believed only under a
 // wrapper that stays.
 fn admit(table: &mut Table, by: Tag, tag: Option<Tag>, key: &[u8; 16]) -> Result<u8, Refusal>
-    ensures { (w : List ℕ) → admits (record { key = w; tag = by }) (slot_for tag key.entry.now) (state_of table.old) ≡ record { box = state_of table.new; answer = place_answer result } }
+    ensures { (w : List ℕ) → admits (record { key = w; tag = by }) (slot_for tag key.now) (state_of table.old) ≡ record { box = state_of table.new; answer = place_answer result } }
 {
     let Some(tag) = tag else {
         return Err(Refusal::NotOpened);
@@ -62,7 +62,7 @@ fn admit(table: &mut Table, by: Tag, tag: Option<Tag>, key: &[u8; 16]) -> Result
 impl Device {
     /// Takes in the key of a blob, with the tag that the blob says.
     pub fn unwrap<C: Cipher>(&mut self, cipher: &C, under: u8, blob: &[u8]) -> Result<u8, Refusal>
-        ensures { does (alg cipher.now) (to_unwrap under blob.now) (state_of self.old.table) ≡ record { box = state_of self.new.table; answer = place_answer result } }
+        ensures { does (C.alg cipher.now) (to_unwrap under blob.now) (state_of self.old.table) ≡ record { box = state_of self.new.table; answer = place_answer result } }
     {
         let by = self.table.find(under)?;
         by.in_role(Role::Wrapper)?;
@@ -80,7 +80,7 @@ impl Device {
         label: u8,
         role: Role,
     ) -> Result<u8, Refusal>
-        ensures { does (alg cipher.now) (to_derive base label role) (state_of self.old.table) ≡ record { box = state_of self.new.table; answer = place_answer result } }
+        ensures { does (C.alg cipher.now) (to_derive base label role) (state_of self.old.table) ≡ record { box = state_of self.new.table; answer = place_answer result } }
     {
         let from = self.table.find(base)?;
         from.in_role(Role::Base)?;
