@@ -1,5 +1,5 @@
 -- The words that Ascon-CXOF128 absorbs determine customization string and message.
-use Rattle.std.proofs.Common.{◌≡◌, ℕ, zero, suc, ◌+◌, ◌-◌, ◌*◌, ◌/◌, ◌<◌, List, [], ◌∷◌, ◌++◌, map, length, get_or, take, drop, replicate, sym, refl, ap, ◌∙◌, ⊎_elim, arith}
+use Rattle.std.proofs.Common.{◌≡◌, ℕ, zero, suc, ◌-◌, ◌*◌, ◌/◌, ◌<◌, List, [], ◌∷◌, ◌++◌, map, length, get_or, take, drop, replicate, sym, refl, ap, ◌∙◌, ⊎_elim, arith}
 use Rattle.std.proofs.lemmas.List.{length-map, length-take-le, take_at, drop_at, take-append-drop, get_or_at, get_or-append_right, ext_get_or}
 use Rattle.std.proofs.lemmas.Bool.{cases_order}
 use Rattle.ascon.specs.Blocks.{Bytes, word, bytes, pad, blocks, padded}

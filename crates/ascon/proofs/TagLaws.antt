@@ -1,5 +1,5 @@
 -- Tags compared as two words.
-use Rattle.std.proofs.Common.{◌≡◌, ℕ, ◌+◌, ◌^◌, ◌<◌, true, eqb, List, ◌++◌, length, take, drop, sym, refl, ap, ◌∙◌, arith}
+use Rattle.std.proofs.Common.{◌≡◌, ℕ, ◌^◌, ◌<◌, true, eqb, List, ◌++◌, length, take, drop, sym, refl, ap, ◌∙◌, arith}
 use lib.Bits.{bit_or, bit_xor, xor_self}
 use Rattle.std.proofs.lemmas.List.{length-drop, take-append-drop, length-take-le, ext_get_or}
 use Rattle.std.specs.Str.{bytes_eq}

@@ -1,4 +1,5 @@
 //! The ciphers of NIST SP 800-232 (Ascon), each equal to its definition in specs/.
+#![tactic(auto)]
 
 mod aead;
 mod blocks;

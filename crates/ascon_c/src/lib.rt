@@ -1,5 +1,6 @@
 //! The ciphers for programs in C: the functions of `ascon` under C names. A slice is a pointer and a
 //! length there, an array of sixteen bytes a pointer; bench/bench.c declares them.
+#![tactic(auto)]
 
 ghost use Rattle.std.specs.Prelude.{◌≡◌, length, replicate, is_some};
 ghost use Rattle.std.specs.Option.{unwrap_or};

@@ -1,4 +1,5 @@
 //! Seals, opens and hashes what the lines on standard input ask for, each answered by a line.
+#![tactic(auto)]
 
 ghost use Rattle.std.specs.Prelude.{◌≤◌, IfOk, vec_len};
 

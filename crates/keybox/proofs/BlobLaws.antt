@@ -1,5 +1,5 @@
 -- Blobs and texts of the cipher, as they lie in lent memory.
-use Rattle.std.proofs.Common.{◌≡◌, ℕ, ◌-◌, ◌≤◌, List, length, take, Some, None, Option, sym, refl, ap, ◌∙◌, arith}
+use Rattle.std.proofs.Common.{◌≡◌, ℕ, ◌-◌, ◌≤◌, List, length, take, Some, None, Option, sym, ap, ◌∙◌, arith}
 use Rattle.keys.specs.Algebra.{role_number, role_of}
 use Rattle.keys.specs.Padded.{padded}
 use Rattle.keys.specs.declared.role.Role.{Role}

@@ -1,4 +1,5 @@
 //! The ten commands of a box, over any suite of ciphers.
+#![tactic(auto)]
 
 pub mod blobs;
 pub mod cipher;

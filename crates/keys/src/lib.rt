@@ -1,4 +1,5 @@
 //! Keys, the places that hold them, and the table of a box.
+#![tactic(auto)]
 
 pub mod held;
 pub mod key;

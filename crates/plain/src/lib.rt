@@ -1,4 +1,5 @@
 //! A cipher for tests: no secrecy, exact bookkeeping.
+#![tactic(auto)]
 
 mod parts;
 pub mod plain;

@@ -1,4 +1,5 @@
 //! The promises about every order of commands, as theorems.
+#![tactic(auto)]
 
 ghost use Rattle.terms.specs.Cases.{Cases};
 ghost use Rattle.terms.specs.Promises.{Promises};

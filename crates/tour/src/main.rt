@@ -1,4 +1,5 @@
 //! Runs a table of cases over the plain cipher, and prints each command with its answer, in words.
+#![tactic(auto)]
 
 mod cases;
 mod session;

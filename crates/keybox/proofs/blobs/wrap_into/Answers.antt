@@ -1,4 +1,4 @@
-use Rattle.std.proofs.Common.{◌≡◌, ℕ, List, length, ap, ◌∙◌}
+use Rattle.std.proofs.Common.{ℕ, List, length, ap, ◌∙◌}
 use Rattle.keys.specs.Padded.{padded}
 use Rattle.keys.specs.declared.tag.Tag.{Tag}
 use Rattle.keybox.specs.Lent.{stamp_for}
