@@ -1,7 +1,7 @@
 #!/usr/bin/env python3
 """Holds the built program ascon_cli to the reference, on inputs that its stored run does not have.
 
-    python3 tools/test_programs.py [PROGRAM]     PROGRAM: target/bin/ascon_cli if not given
+    python3 tools/test_programs.py [PROGRAM]     PROGRAM: crates/ascon_cli/out/ascon_cli if not given
 
 It needs the program, so it is a script and no unittest: where unittest looks for tests, it finds
 none here. The random lines come from a fixed seed.
@@ -17,7 +17,7 @@ import tempfile
 import ascon_ref as ascon
 
 ROOT = pathlib.Path(__file__).resolve().parent.parent
-PROGRAM = ROOT / "target" / "bin" / "ascon_cli"
+PROGRAM = ROOT / "crates" / "ascon_cli" / "out" / "ascon_cli"
 TIMEOUT = 120  # seconds for a run that takes far less than one
 SEED = 232
 
@@ -206,7 +206,7 @@ def main(words):
         return 2
     program = pathlib.Path(words[0] if words else PROGRAM).resolve()
     if not program.is_file():
-        print(f"programs: {program} is not there: rt check ascon_cli builds it", file=sys.stderr)
+        print(f"programs: {program} is not there: bin/ascon builds it", file=sys.stderr)
         return 1
     try:
         cases = check(str(program))

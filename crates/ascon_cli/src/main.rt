@@ -15,16 +15,19 @@ mod stream;
 use secret::Secret;
 use std::io;
 use std::io::{Read, Write};
+use std::process::ExitCode;
 
 /// How much is read at once, and about how much is written at once.
 const BUFFER: usize = 65536;
 
-fn main(rt: HostRuntime) -> io::Result<()> {
-    let result = run(&rt);
-    if let Err(error) = &result {
-        let _ = eprintln!(rt; "ascon: {error}");
+fn main(rt: HostRuntime) -> ExitCode {
+    match run(&rt) {
+        Ok(()) => ExitCode::SUCCESS,
+        Err(error) => {
+            let _ = eprintln!(rt; "ascon: {error}");
+            ExitCode::FAILURE
+        }
     }
-    result
 }
 
 // What was answered before a failure is written all the same.

@@ -5,8 +5,14 @@ mod cases;
 mod session;
 mod words;
 
-use std::io;
+use std::process::ExitCode;
 
-fn main(rt: HostRuntime) -> io::Result<()> {
-    cases::run(&rt)
+fn main(rt: HostRuntime) -> ExitCode {
+    match cases::run(&rt) {
+        Ok(()) => ExitCode::SUCCESS,
+        Err(error) => {
+            let _ = eprintln!(rt; "tour: {error}");
+            ExitCode::FAILURE
+        }
+    }
 }
