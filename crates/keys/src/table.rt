@@ -149,7 +149,7 @@ impl Table {
     /// Copies a key into a place.
     pub fn put(&mut self, at: u8, tag: Tag, key: &[u8; 16])
         requires { at < capacity }
-        ensures { state_of self.new ≡ put_at at (full_place (record { key = key.entry.now; tag = tag })) (state_of self.old) }
+        ensures { state_of self.new ≡ put_at at (full_place (record { key = key.now; tag = tag })) (state_of self.old) }
     {
         let place = &mut self.places[at as usize];
         place.fill(tag, key);
@@ -157,7 +157,7 @@ impl Table {
 
     /// Copies a key into the first empty place.
     pub fn place_key(&mut self, tag: Tag, key: &[u8; 16]) -> Result<u8, Refusal>
-        ensures { put_in (record { key = key.entry.now; tag = tag }) (state_of self.old) ≡ record { box = state_of self.new; answer = place_answer result } }
+        ensures { put_in (record { key = key.now; tag = tag }) (state_of self.old) ≡ record { box = state_of self.new; answer = place_answer result } }
     {
         let free = self.first_empty()?;
         self.put(free, tag, key);
