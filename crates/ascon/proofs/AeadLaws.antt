@@ -1,27 +1,27 @@
 -- One block of Ascon-AEAD128 at a time, for the loops over data and text.
-use Rattle.std.proofs.Common.{◌≡◌, ℕ, suc, ◌+◌, ◌-◌, ◌/◌, ◌<◌, ◌≤◌, Bool, true, false, cond, List, [], ◌∷◌, ◌++◌, length, take, drop, replicate, is_some, Some, None, Option, unwrap_or, sym, refl, ap, ◌∙◌, arith}
+use Rattle.std.proofs.Common.{◌≡◌, ℕ, suc, ◌+◌, ◌-◌, ◌/◌, ◌<◌, ◌≤◌, List, [], ◌∷◌, ◌++◌, length, fold, take, drop, replicate, sym, refl, ap, ◌∙◌, arith}
 use borrow.Rule.Slice.PartMut.{put_mid}
 use lib.Bits.{bit_or, bit_xor, or_add_and, and_le_l, and_le_r, xor_assoc, xor_self, xor_zero_l, xor_zero_r}
-use Rattle.std.proofs.lemmas.List.{length-append, length-take, take_rest, length-drop, drop_all, append-nil}
-use Rattle.std.proofs.lemmas.Bool.{both_ways, cond-true, cond-false}
-use Rattle.std.specs.Str.{bytes_eq}
+use Rattle.std.proofs.lemmas.List.{take_rest, length-drop, drop_all, append-nil}
+use Rattle.std.specs.Array.{IsFirstChunk}
 use Rattle.ascon.specs.declared.state.State.{State}
 use Rattle.ascon.specs.Permutation.{p8}
 use Rattle.ascon.specs.Blocks.{bytes, word, pad, padded}
-use Rattle.ascon.specs.Aead.{rate, add, replace, absorbed, with_data, encrypted, after_text, decrypted, after_ciphertext, begun, finalized, opened}
-use Rattle.ascon.proofs.BlockLaws.{whole_more, whole_none, length_written, behind_written, block_written, padded_more, padded-last, word_noughts}
+use Rattle.ascon.specs.Aead.{rate, add, replace, absorbed, with_data, encrypted, after_text, decrypted, after_ciphertext}
+use Rattle.ascon.proofs.BlockLaws.{whole_more, whole_none, length_written, behind_written, block_written, word_noughts}
 
 pub length-rate : (s : State) → length (rate s) ≡ 16
 unfolding rate bytes
 length-rate s = refl
 
-pub absorbed_more : (s : State) (m : List ℕ) → 16 ≤ length m → absorbed s (padded 16 m) ≡ absorbed (p8 (add s (take 16 m))) (padded 16 (drop 16 m))
-unfolding absorbed
-absorbed_more s m h = ap (absorbed s) (padded_more 16 m (omega arith) h)
+-- what a block of data does to the state
+abbrev pub data_step : State → List ℕ → State
+data_step s b = p8 (add s b)
 
-pub absorbed-last : (s : State) (m : List ℕ) → length m < 16 → absorbed s (padded 16 m) ≡ p8 (add s (pad 16 m))
+pub absorbed-fold : (bs : List (List ℕ)) (s : State) → fold data_step s bs ≡ absorbed s bs
 unfolding absorbed
-absorbed-last s m h = ap (absorbed s) (padded-last 16 m h)
+absorbed-fold [] s = refl
+absorbed-fold (b ∷ bs) s = absorbed-fold bs (data_step s b)
 
 pub no_data : (s : State) (a : List ℕ) → length a ≡ 0 → with_data s a ≡ s
 unfolding with_data
@@ -91,66 +91,47 @@ module _ (text : ℕ → State → List ℕ → List ℕ) (state : ℕ → State
         after = ap (λ (x : List ℕ). state (length x / 16) s' x) behind ∙ (sym step' ∙ left.after);
       }
 
-  pub left_length : (out : List ℕ) → length out ≡ length (take (length cur - at) (drop at cur)) → length (put_mid at (length cur - at) cur out) ≡ length t₀
-  left_length out l =
-      let w : at ≤ length cur = left.within in
-      let e : length cur ≡ length t₀ = left.whole in
-      let m : length out ≡ length cur - at = l ∙ (ap length (take_rest cur at) ∙ length-drop at cur) in
-      simp (length-append, length-take, length-drop) (omega arith)
-
   -- the last block, which is not whole
-  pub left_last : (r : State) (out : List ℕ) → length cur - at < 16 → out ≡ text 0 s (take (length cur - at) (drop at cur)) → r ≡ state 0 s (take (length cur - at) (drop at cur)) → (put_mid at (length cur - at) cur out ≡ text (length t₀ / 16) s₀ t₀) × (r ≡ state (length t₀ / 16) s₀ t₀)
+  pub left_last : (r : State) (out : List ℕ) → length (take (length cur - at) (drop at cur)) < 16 → out ≡ text 0 s (take (length cur - at) (drop at cur)) → r ≡ state 0 s (take (length cur - at) (drop at cur)) → (put_mid at (length cur - at) cur out ≡ text (length t₀ / 16) s₀ t₀) × (r ≡ state (length t₀ / 16) s₀ t₀)
   left_last r out short o e =
       let w : at ≤ length cur = left.within in
       let rest : take (length cur - at) (drop at cur) ≡ drop at cur = take_rest cur at in
-      let none : length (drop at cur) / 16 ≡ 0 = whole_none 16 (drop at cur) (simp length-drop short) in
+      let none : length (drop at cur) / 16 ≡ 0 = whole_none 16 (drop at cur) (rw rest at short) in
       let end : drop (length cur - at) (drop at cur) ≡ [] = drop_all (length cur - at) (drop at cur) (simp length-drop (omega arith)) in
       let nil : out ++ [] ≡ out = append-nil out in
       let all = left.bytes in
       let all' = left.after in
       (cc, cc)
 
+-- the block that stands at a place of a text
+module _ (cur block : List ℕ) (at : ℕ) (within : at ≤ length cur) (here : IsFirstChunk (take (length cur - at) (drop at cur)) block 16) where
+  pub block_there : block ≡ take 16 (drop at cur)
+  block_there = here.same ∙ ap (take 16) (take_rest cur at)
+
+  pub block_fits : at + 16 ≤ length cur
+  block_fits = let enough = here.enough in omega (arith, ap length (take_rest cur at), length-drop at cur)
+
 -- one block of the loop that encrypts
-pub encrypt_step : (s₀ : State) (t₀ : List ℕ) (s : State) (cur : List ℕ) (at : ℕ) (a s' : State) (out : List ℕ) (k : ℕ) → Left encrypted after_text s₀ t₀ s cur at → k ≡ 16 → at + 16 ≤ length cur → a ≡ add s (take k (drop at cur)) → out ≡ rate a → s' ≡ p8 a → Left encrypted after_text s₀ t₀ s' (put_mid at k cur out) (at + 16)
-encrypt_step s₀ t₀ s cur at a s' out k left size fits e o p =
-    let here : 16 ≤ length (drop at cur) = simp length-drop (omega arith) in
+pub encrypt_step : (s₀ : State) (t₀ : List ℕ) (s : State) (cur : List ℕ) (at : ℕ) (block : List ℕ) (a s' : State) (out : List ℕ) (k : ℕ) → Left encrypted after_text s₀ t₀ s cur at → IsFirstChunk (take (length cur - at) (drop at cur)) block 16 → k ≡ 16 → a ≡ add s block → out ≡ rate a → s' ≡ p8 a → Left encrypted after_text s₀ t₀ s' (put_mid at k cur out) (at + 16)
+encrypt_step s₀ t₀ s cur at block a s' out k left here size e o p =
+    let there = block_there cur block at left.within here in
+    let fits = block_fits cur block at left.within here in
+    let more : 16 ≤ length (drop at cur) = simp length-drop (omega arith) in
     let whole : length out ≡ 16 = ap length o ∙ length-rate a in
-    let step = encrypted_more s (drop at cur) here in
-    let step' = after_text_more s (drop at cur) here in
+    let step = encrypted_more s (drop at cur) more in
+    let step' = after_text_more s (drop at cur) more in
     left_more encrypted after_text s₀ t₀ s cur at left s' out k size fits whole (cc) (cc)
 
 -- one block of the loop that decrypts
-pub decrypt_step : (s₀ : State) (t₀ : List ℕ) (s : State) (cur : List ℕ) (at : ℕ) (a r s' : State) (out : List ℕ) (k : ℕ) → Left decrypted after_ciphertext s₀ t₀ s cur at → k ≡ 16 → at + 16 ≤ length cur → r ≡ replace s (take k (drop at cur)) → a ≡ add s (take k (drop at cur)) → out ≡ rate a → s' ≡ p8 r → Left decrypted after_ciphertext s₀ t₀ s' (put_mid at k cur out) (at + 16)
-decrypt_step s₀ t₀ s cur at a r s' out k left size fits e f o p =
-    let here : 16 ≤ length (drop at cur) = simp length-drop (omega arith) in
+pub decrypt_step : (s₀ : State) (t₀ : List ℕ) (s : State) (cur : List ℕ) (at : ℕ) (block : List ℕ) (a r s' : State) (out : List ℕ) (k : ℕ) → Left decrypted after_ciphertext s₀ t₀ s cur at → IsFirstChunk (take (length cur - at) (drop at cur)) block 16 → k ≡ 16 → r ≡ replace s block → a ≡ add s block → out ≡ rate a → s' ≡ p8 r → Left decrypted after_ciphertext s₀ t₀ s' (put_mid at k cur out) (at + 16)
+decrypt_step s₀ t₀ s cur at block a r s' out k left here size e f o p =
+    let there = block_there cur block at left.within here in
+    let fits = block_fits cur block at left.within here in
+    let more : 16 ≤ length (drop at cur) = simp length-drop (omega arith) in
     let whole : length out ≡ 16 = ap length o ∙ length-rate a in
-    let step = decrypted_more s (drop at cur) here in
-    let step' = after_ciphertext_more s (drop at cur) here in
+    let step = decrypted_more s (drop at cur) more in
+    let step' = after_ciphertext_more s (drop at cur) more in
     left_more decrypted after_ciphertext s₀ t₀ s cur at left s' out k size fits whole (cc) (cc)
-
--- what a test and a buffer say of an opening
-pub record OpenedAs (o : Option (List ℕ)) (b : Bool) (out noughts : List ℕ) : Type 0 where
-  pub test : b ≡ is_some o
-  pub bytes : out ≡ unwrap_or o noughts
-  pub some : b ≡ true → o ≡ Some out
-
--- what opening comes to, by the tag that was worked out
-module _ (k n a c g : List ℕ) (s f : State) (b : Bool) (start : s ≡ begun k n a) (after : f ≡ after_ciphertext (length c / 16) s c) (compared : b ≡ bytes_eq (finalized k f) g) where
-  opened_by : opened k n a c g ≡ cond b (Some (decrypted (length c / 16) s c)) None
-  unfolding opened
-  opened_by = cc
-
-  pub opened_as : (text out : List ℕ) → text ≡ decrypted (length c / 16) s c → length text ≡ length c → out ≡ cond b text (replicate (length text) 0) → OpenedAs (opened k n a c g) b out (replicate (length c) 0)
-  opened_as text out d l o = go b refl where
-    go : (x : Bool) → b ≡ x → OpenedAs (opened k n a c g) b out (replicate (length c) 0)
-    go true t =
-        let same_out : out ≡ text = o ∙ cond-true b text (replicate (length text) 0) t in
-        let e : opened k n a c g ≡ Some out = opened_by ∙ (cond-true b (Some (decrypted (length c / 16) s c)) None t ∙ ap Some (sym (same_out ∙ d))) in
-        record { test = t ∙ sym (ap is_some e); bytes = sym (ap (λ x. unwrap_or x (replicate (length c) 0)) e); some = λ _. e }
-    go false t =
-        let noughts : out ≡ replicate (length c) 0 = o ∙ (cond-false b text (replicate (length text) 0) t ∙ ap (λ m. replicate m 0) l) in
-        let e : opened k n a c g ≡ None = opened_by ∙ cond-false b (Some (decrypted (length c / 16) s c)) None t in
-        record { test = t ∙ sym (ap is_some e); bytes = noughts ∙ sym (ap (λ x. unwrap_or x (replicate (length c) 0)) e); some = λ u. absurd (both_ways b t u) }
 
 -- a last block of padding alone
 pub add_padding : (s : State) → add s (pad 16 []) ≡ record { x0 = bit_xor s.x0 1; x1 = s.x1; x2 = s.x2; x3 = s.x3; x4 = s.x4 }

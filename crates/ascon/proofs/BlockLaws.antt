@@ -1,11 +1,14 @@
 -- Whole blocks and what is left of them, for the loops over a message.
-use Rattle.std.proofs.Common.{◌≡◌, ℕ, zero, suc, ◌+◌, ◌-◌, ◌/◌, ◌<◌, ◌≤◌, List, [], ◌∷◌, ◌++◌, length, get_or, take, drop, set, replicate, sym, refl, ap, ◌∙◌, ⊎_elim, add-one, arith, lit<, get_or-drop, get_or-take}
+use Rattle.std.proofs.Common.{◌≡◌, ℕ, zero, suc, ◌+◌, ◌-◌, ◌*◌, ◌/◌, ◌<◌, ◌≤◌, List, [], ◌∷◌, ◌++◌, length, fold, get_or, take, drop, replicate, sym, refl, ap, ◌∙◌, ⊎_elim, add-one, arith, lit<, get_or-drop, get_or-take}
 use native.Mathlib.Nat.{div-eq-sub-div, div-eq_of_lt}
 use borrow.Rule.Slice.PartMut.{put_mid, post_of}
-use Rattle.std.proofs.lemmas.List.{length-append, length-take, length-drop, drop-drop, drop_all, take_at, drop_at, set_at, drop-replicate, append_assoc, append-nil}
+use Rattle.std.proofs.lemmas.List.{length-append, length-take, length-drop, drop-drop, drop_all, take_at, drop_at, append_assoc, append-nil}
 use Rattle.std.proofs.lemmas.Slice.{take-put_mid, drop-put_mid}
+use Rattle.std.proofs.lemmas.List.Sums.{fold-append}
 use Rattle.std.proofs.lemmas.Bool.{cases_lt}
 use lib.Seq.{take-append-add}
+use Rattle.std.specs.Simd.{first_chunks}
+use Rattle.std.proofs.Math.Nat.{suc-mul, zero-mul}
 use Rattle.ascon.specs.Blocks.{pad, blocks, padded, bytes, word}
 
 -- one whole block more than what is left behind it has
@@ -36,18 +39,6 @@ cut r p (suc n) m e =
 pub padded_more : (r : ℕ) (m : List ℕ) → 0 < r → r ≤ length m → padded r m ≡ take r m ∷ padded r (drop r m)
 unfolding padded blocks
 padded_more r m p h = ap (λ n. blocks r n m) (whole_more r m p h)
-
-pub padded-last : (r : ℕ) (m : List ℕ) → length m < r → padded r m ≡ pad r m ∷ []
-unfolding padded blocks
-padded-last r m h = ap (λ n. blocks r n m) (whole_none r m h)
-
--- a tail and a byte behind it, written into noughts
-pub put_last : (size mark : ℕ) (tail : List ℕ) → length tail < size → set (tail ++ drop (length tail) (replicate size 0)) (length tail) mark ≡ tail ++ mark ∷ replicate (size - 1 - length tail) 0
-put_last size mark tail h =
-    let e : size - length tail ≡ suc (size - 1 - length tail) = omega arith in
-    let behind : drop (length tail) (replicate {A = ℕ} size 0) ≡ replicate (size - length tail) 0 = drop-replicate (length tail) size 0 in
-    let there : set (tail ++ 0 ∷ replicate (size - 1 - length tail) 0) (length tail) mark ≡ tail ++ mark ∷ replicate (size - 1 - length tail) 0 = set_at tail 0 (replicate (size - 1 - length tail) 0) mark (length tail) refl in
-    rw (behind, e) there
 
 -- two halves of eight bytes, written one after the other
 pub two_halves : (a b out : List ℕ) → length a ≡ 8 → length b ≡ 8 → length out ≡ 16 → put_mid 8 8 (a ++ post_of 0 8 out) b ≡ a ++ b
@@ -97,3 +88,23 @@ take-append xs ys n k l h = let e : n ≡ length xs + (n - k) = omega arith in a
 pub word-take : (m : List ℕ) → word (take 8 m) ≡ word m
 unfolding word
 word-take m = rw (get_or-take 8 m 0 0 (lit< tt), get_or-take 8 m 1 0 (lit< tt), get_or-take 8 m 2 0 (lit< tt), get_or-take 8 m 3 0 (lit< tt), get_or-take 8 m 4 0 (lit< tt), get_or-take 8 m 5 0 (lit< tt), get_or-take 8 m 6 0 (lit< tt), get_or-take 8 m 7 0 (lit< tt))
+
+-- the blocks of a message: those that are whole, and the last one
+pub blocks_split : (r n : ℕ) (m : List ℕ) → blocks r n m ≡ first_chunks r n m ++ pad r (drop (n * r) m) ∷ []
+unfolding blocks
+blocks_split r zero m = rw zero-mul refl
+blocks_split r (suc n) m =
+    let e : drop (n * r) (drop r m) ≡ drop (suc n * r) m = drop-drop (n * r) r m ∙ ap (λ k. drop k m) (omega (arith, suc-mul n r)) in
+    rw (← e) (ap (λ (bs : List (List ℕ)). take r m ∷ bs) (blocks_split r n (drop r m)))
+
+-- a step for each whole block, and one for the last
+pub fold_padded : {S : Type 0} (step : S → List ℕ → S) (r : ℕ) (m : List ℕ) (s : S) → step (fold step s (first_chunks r (length m / r) m)) (pad r (drop (length m / r * r) m)) ≡ fold step s (padded r m)
+unfolding padded
+fold_padded step r m s =
+    sym (ap (fold step s) (blocks_split r (length m / r) m) ∙ fold-append step s (first_chunks r (length m / r) m) (pad r (drop (length m / r * r) m) ∷ []))
+
+-- the words of the two halves of a block
+pub halves : (b : List ℕ) (cs : List (List ℕ)) → cs ≡ first_chunks 8 (length b / 8) b → length b ≡ 16 → (word (get_or cs 0 []) ≡ word b) × (word (get_or cs 1 []) ≡ word (drop 8 b))
+halves b cs e l =
+    let two : cs ≡ first_chunks 8 2 b = e ∙ ap (λ n. first_chunks 8 (n / 8) b) l in
+    (ap (λ (xs : List (List ℕ)). word (get_or xs 0 [])) two ∙ word-take b, ap (λ (xs : List (List ℕ)). word (get_or xs 1 [])) two ∙ word-take (drop 8 b))

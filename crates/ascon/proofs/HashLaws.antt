@@ -1,32 +1,29 @@
 -- One word of input or of output at a time, for the loops of Ascon-Hash256 and Ascon-CXOF128.
-use Rattle.std.proofs.Common.{◌≡◌, ℕ, suc, ◌+◌, ◌-◌, ◌*◌, ◌/◌, ◌<◌, ◌≤◌, List, [], ◌∷◌, ◌++◌, map, length, take, drop, refl, ap, ◌∙◌, add-one, arith}
+use Rattle.std.proofs.Common.{◌≡◌, ℕ, suc, ◌+◌, ◌-◌, ◌*◌, ◌/◌, ◌≤◌, List, [], ◌∷◌, ◌++◌, map, length, fold, take, drop, refl, ap, ◌∙◌, add-one, arith}
 use native.Mathlib.Nat.{div-eq-sub-div}
 use borrow.Rule.Slice.PartMut.{put_mid}
 use Rattle.std.proofs.lemmas.List.{length-append, length-take, length-drop, drop_all, take-append-le, take_at, drop_at, drop-append-le, append_assoc, append-nil}
 use Rattle.std.proofs.lemmas.Slice.{take-put_mid}
 use Rattle.ascon.specs.declared.state.State.{State}
 use Rattle.ascon.specs.Permutation.{p12}
-use Rattle.ascon.specs.Blocks.{word, bytes, pad}
+use Rattle.ascon.specs.Blocks.{word, bytes}
 use Rattle.ascon.specs.Hash.{add_word, absorbed_words, words, stream, output, initial, cxof_words, cxof128, customized}
 use Rattle.ascon.specs.declared.purpose.Purpose.{Purpose}
 use Rattle.ascon.specs.Keyed.{string_of, keyed}
-use Rattle.ascon.proofs.BlockLaws.{padded_more, padded-last, length-bytes, take-append, word-take}
+use Rattle.ascon.proofs.BlockLaws.{padded_more, length-bytes, take-append, word-take}
 
 pub words_more : (m : List ℕ) → 8 ≤ length m → words m ≡ word (take 8 m) ∷ words (drop 8 m)
 unfolding words
 words_more m h = ap (map word) (padded_more 8 m (omega arith) h)
 
-pub words_last : (m : List ℕ) → length m < 8 → words m ≡ word (pad 8 m) ∷ []
-unfolding words
-words_last m h = ap (map word) (padded-last 8 m h)
+-- what a block of a message does to the state
+abbrev pub word_step : State → List ℕ → State
+word_step s b = p12 (add_word s (word b))
 
-pub absorbed_words_more : (s : State) (m : List ℕ) → 8 ≤ length m → absorbed_words s (words m) ≡ absorbed_words (p12 (add_word s (word (take 8 m)))) (words (drop 8 m))
+pub absorbed_words-fold : (bs : List (List ℕ)) (s : State) → fold word_step s bs ≡ absorbed_words s (map word bs)
 unfolding absorbed_words
-absorbed_words_more s m h = ap (absorbed_words s) (words_more m h)
-
-pub absorbed_words-last : (s : State) (m : List ℕ) → length m < 8 → absorbed_words s (words m) ≡ p12 (add_word s (word (pad 8 m)))
-unfolding absorbed_words
-absorbed_words-last s m h = ap (absorbed_words s) (words_last m h)
+absorbed_words-fold [] s = refl
+absorbed_words-fold (b ∷ bs) s = absorbed_words-fold bs (word_step s b)
 
 pub absorbed_words-++ : (s : State) (xs ys : List ℕ) → absorbed_words s (xs ++ ys) ≡ absorbed_words (absorbed_words s xs) ys
 unfolding absorbed_words

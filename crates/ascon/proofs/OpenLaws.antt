@@ -177,41 +177,52 @@ ciphertext_back (suc n) s c f h w =
 cut_16 : (t : List ℕ) → Cut 16 (length t / 16) t
 cut_16 t = cut 16 (omega arith) (length t / 16) t refl
 
-pub length-ciphertext : (k n a t : List ℕ) → length (ciphertext k n a t) ≡ length t
-unfolding ciphertext
-length-ciphertext k n a t = length-encrypted (length t / 16) (begun k n a) t (cut_16 t)
+-- what was sealed opens, and what opens is the sealing of what it opens to, where the state before the
+-- text fits its words
+module _ (k n a : List ℕ) (s : State) (start : s ≡ begun k n a) (f : Fits s) where
+  fits : Fits (begun k n a)
+  fits = let P : State → Type 0 = λ x. Fits x in subst P start f
 
-pub length-tag : (k n a t : List ℕ) → length (tag k n a t) ≡ 16
-unfolding tag finalized bytes
-length-tag k n a t = refl
+  pub opens_from : (t : List ℕ) → Bytes t → opened k n a (ciphertext k n a t) (tag k n a t) ≡ Some t
+  unfolding opened ciphertext tag
+  opens_from t bt =
+      let m : ℕ = length t / 16 in
+      let all = text_back m (begun k n a) t fits bt (cut_16 t) in
+      let long : length (encrypted m (begun k n a) t) ≡ length t = length-encrypted m (begun k n a) t (cut_16 t) in
+      let mark : List ℕ = finalized k (after_text m (begun k n a) t) in
+      let same_tag : bytes_eq mark mark ≡ true = (bytes_eq-Decides mark mark).1 refl in
+      rw (long, all.state, same_tag, all.text)
 
-pub opens : Opens
-unfolding opened ciphertext tag
-opens k n a t bk bn ba bt =
-    let s : State = begun k n a in
-    let m : ℕ = length t / 16 in
-    let all = text_back m s t (begun_fits k n a bk bn ba) bt (cut_16 t) in
-    let long : length (encrypted m s t) ≡ length t = length-encrypted m s t (cut_16 t) in
-    let same_tag : bytes_eq (finalized k (after_text m s t)) (finalized k (after_text m s t)) ≡ true = (bytes_eq-Decides (finalized k (after_text m s t)) (finalized k (after_text m s t))).1 refl in
-    rw (long, all.state, same_tag, all.text)
-
-pub only : Only
-unfolding opened ciphertext tag
-only k n a c g t bk bn ba bc e = go (bytes_eq (finalized k (after_ciphertext (length c / 16) (begun k n a) c)) g) refl e where
-  is : bytes_eq (finalized k (after_ciphertext (length c / 16) (begun k n a) c)) g ≡ true → IsSealing k n a (decrypted (length c / 16) (begun k n a) c) c g
-  is p =
-      let s : State = begun k n a in
+  pub sealed_from : (c g : List ℕ) → Bytes c → bytes_eq (finalized k (after_ciphertext (length c / 16) (begun k n a) c)) g ≡ true → IsSealing k n a (decrypted (length c / 16) (begun k n a) c) c g
+  unfolding ciphertext tag
+  sealed_from c g bc p =
       let m : ℕ = length c / 16 in
-      let all = ciphertext_back m s c (begun_fits k n a bk bn ba) bc (cut_16 c) in
-      let long : length (decrypted m s c) ≡ length c = length-decrypted m s c (cut_16 c) in
+      let all = ciphertext_back m (begun k n a) c fits bc (cut_16 c) in
+      let long : length (decrypted m (begun k n a) c) ≡ length c = length-decrypted m (begun k n a) c (cut_16 c) in
       record {
         same_text = rw long (sym all.text);
-        same_tag = rw (long, all.state) (sym ((bytes_eq-Decides (finalized k (after_ciphertext m s c)) g).0 p));
+        same_tag = rw (long, all.state) (sym ((bytes_eq-Decides (finalized k (after_ciphertext m (begun k n a) c)) g).0 p));
       }
 
+pub opens : Opens
+opens k n a t bk bn ba bt = opens_from k n a (begun k n a) refl (begun_fits k n a bk bn ba) t bt
+
+pub only : Only
+unfolding opened
+only k n a c g t bk bn ba bc e = go (bytes_eq (finalized k (after_ciphertext (length c / 16) (begun k n a) c)) g) refl e where
   go : (b : Bool) → bytes_eq (finalized k (after_ciphertext (length c / 16) (begun k n a) c)) g ≡ b → cond b (Some (decrypted (length c / 16) (begun k n a) c)) None ≡ Some t → IsSealing k n a t c g
   go true p q =
       let text : decrypted (length c / 16) (begun k n a) c ≡ t = cc in
       let P : List ℕ → Type 0 = λ x. IsSealing k n a x c g in
-      subst P text (is p)
+      subst P text (sealed_from k n a (begun k n a) refl (begun_fits k n a bk bn ba) c g bc p)
   go false p q = let z : ◌≡◌ {A = ℕ} 0 1 = cc in let y : ⊥ = omega arith in absurd y
+
+-- opening, by whether the tag is right
+module _ (k n a c g : List ℕ) where
+  pub opened-right : bytes_eq (finalized k (after_ciphertext (length c / 16) (begun k n a) c)) g ≡ true → opened k n a c g ≡ Some (decrypted (length c / 16) (begun k n a) c)
+  unfolding opened
+  opened-right e = rw e
+
+  pub opened-wrong : bytes_eq (finalized k (after_ciphertext (length c / 16) (begun k n a) c)) g ≡ false → opened k n a c g ≡ None
+  unfolding opened
+  opened-wrong e = rw e

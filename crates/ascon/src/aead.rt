@@ -1,7 +1,7 @@
 //! Ascon-AEAD128. Text is sealed and opened in place, so that lengths always fit and no second
 //! copy of a text arises.
 
-ghost use Rattle.std.specs.Prelude.{◌≡◌, ◌/◌, ◌<◌, true, [], length, replicate, is_some, Some};
+ghost use Rattle.std.specs.Prelude.{◌≡◌, ◌/◌, ◌<◌, true, [], codes, length, replicate, is_ok, is_some, Some};
 ghost use Rattle.std.specs.Str.{bytes_eq};
 ghost use Rattle.std.specs.Option.{unwrap_or};
 ghost use Rattle.ascon.specs.Laws.{IsSealing};
@@ -9,8 +9,10 @@ ghost use Rattle.ascon.specs.Blocks.{pad, padded};
 ghost use Rattle.ascon.specs.Permutation.{p12 as permuted12};
 ghost use Rattle.ascon.specs.Aead.{rate as rate_of, add as added, replace as replaced, add_key_high as key_added_high, add_key_low as key_added_low, initialized, absorbed, with_data, separated, begun, encrypted, after_text, decrypted, after_ciphertext, finalized, ciphertext, tag as tag_of, opened};
 
-use crate::blocks::{are_bytes, is_pair, keep_if, load, put_last, put_padded, store_pair};
+use crate::blocks::{PAD, are_bytes, block_of, is_pair, last_block, words};
 use crate::state::State;
+use std::error::Error;
+use std::fmt;
 
 // The parameters of Ascon-AEAD128.
 const AEAD_IV: u64 = 0x0000_1000_808c_0001;
@@ -19,41 +21,39 @@ const AEAD_IV: u64 = 0x0000_1000_808c_0001;
 const TEXT_BIT: u64 = 1 << 63;
 
 impl State {
-    fn add(self, block: &[u8]) -> State
-        requires { length block.now ≡ 16 }
+    // `add` and `replace` are two steps of the standard; one with a parameter would be no plainer.
+    fn add(self, block: &[u8; 16]) -> State
         ensures { result ≡ added self block.now }
     {
+        let (low, high) = words(block);
         State {
-            x0: self.x0 ^ load(block, 0),
-            x1: self.x1 ^ load(block, 8),
+            x0: self.x0 ^ low,
+            x1: self.x1 ^ high,
             ..self
         }
     }
 
-    fn replace(self, block: &[u8]) -> State
-        requires { length block.now ≡ 16 }
+    fn replace(self, block: &[u8; 16]) -> State
         ensures { result ≡ replaced self block.now }
     {
-        State {
-            x0: load(block, 0),
-            x1: load(block, 8),
-            ..self
-        }
+        let (x0, x1) = words(block);
+        State { x0, x1, ..self }
     }
 
-    fn put_rate(self, out: &mut [u8])
-        requires { length out.old ≡ 16 }
-        ensures { out.new ≡ rate_of self }
+    fn rate(self) -> [u8; 16]
+        ensures { result ≡ rate_of self }
     {
-        store_pair(out, self.x0, self.x1);
+        block_of(self.x0, self.x1)
     }
 
+    // Two steps again; with the words' places as parameters they would be no plainer.
     fn add_key_high(self, key: &[u8; 16]) -> State
         ensures { result ≡ key_added_high key.now self }
     {
+        let (low, high) = words(key);
         State {
-            x2: self.x2 ^ load(key, 0),
-            x3: self.x3 ^ load(key, 8),
+            x2: self.x2 ^ low,
+            x3: self.x3 ^ high,
             ..self
         }
     }
@@ -61,27 +61,25 @@ impl State {
     fn add_key_low(self, key: &[u8; 16]) -> State
         ensures { result ≡ key_added_low key.now self }
     {
+        let (low, high) = words(key);
         State {
-            x3: self.x3 ^ load(key, 0),
-            x4: self.x4 ^ load(key, 8),
+            x3: self.x3 ^ low,
+            x4: self.x4 ^ high,
             ..self
         }
     }
 
-    fn absorb(self, ad: &[u8]) -> State
-        ensures { result ≡ absorbed self (padded 16 ad.now) }
+    // Not one form with `absorb_words`: a closure's bound may not name the size of a block yet.
+    #[inline(always)]
+    fn absorb(self, message: &[u8]) -> State
+        ensures { result ≡ absorbed self (padded 16 message.now) }
     {
-        let mut s = self;
-        let mut rest = ad;
-        while rest.len() >= 16 {
-            s = s.add(&rest[0..16]).p8();
-            rest = &rest[16..];
-        }
-        let mut block = [0; 16];
-        put_padded(&mut block, rest);
-        s.add(&block).p8()
+        let (blocks, tail) = message.as_chunks::<16>();
+        let s = blocks.iter().fold(self, |s, block| s.add(block).p8());
+        s.add(&last_block(tail, PAD)).p8()
     }
 
+    #[inline(always)]
     fn absorb_data(self, ad: &[u8]) -> State
         ensures { result ≡ with_data self ad.now }
     {
@@ -117,24 +115,23 @@ impl State {
         if text.is_empty() {
             return self.add_padding();
         }
-        let mut block = [0; 16];
-        put_padded(&mut block, text);
-        let s = self.add(&block);
-        s.put_rate(&mut block);
+        let s = self.add(&last_block(text, PAD));
         let n = text.len();
-        text.copy_from_slice(&block[0..n]);
+        text.copy_from_slice(&s.rate()[..n]);
         s
     }
 
+    // Apart from `decrypt`: one form of both would take each step, and both of its definitions.
     fn encrypt(self, text: &mut [u8]) -> State
         ensures bytes { text.new ≡ encrypted (length text.old / 16) self text.old }
         ensures state { result ≡ after_text (length text.old / 16) self text.old }
     {
+        // By an index: what a loop writes through a `&mut` that moves along is not known after it.
         let mut s = self;
         let mut at = 0;
-        while text.len() - at >= 16 {
-            s = s.add(&text[at..at + 16]);
-            s.put_rate(&mut text[at..at + 16]);
+        while let Some(block) = text[at..].first_chunk::<16>() {
+            s = s.add(block);
+            text[at..at + 16].copy_from_slice(&s.rate());
             s = s.p8();
             at += 16;
         }
@@ -150,25 +147,23 @@ impl State {
         if text.is_empty() {
             return self.add_padding();
         }
-        let mut block = [0; 16];
-        put_last(&mut block, text, 0);
-        self.add(&block).put_rate(&mut block);
+        let opened = self.add(&last_block(text, 0)).rate();
         let n = text.len();
-        text.copy_from_slice(&block[0..n]);
-        let mut last = [0; 16];
-        put_padded(&mut last, text);
-        self.add(&last)
+        text.copy_from_slice(&opened[..n]);
+        self.add(&last_block(text, PAD))
     }
 
     fn decrypt(self, text: &mut [u8]) -> State
         ensures bytes { text.new ≡ decrypted (length text.old / 16) self text.old }
         ensures state { result ≡ after_ciphertext (length text.old / 16) self text.old }
     {
+        // By an index, as in `encrypt`.
         let mut s = self;
         let mut at = 0;
-        while text.len() - at >= 16 {
-            let next = s.replace(&text[at..at + 16]);
-            s.add(&text[at..at + 16]).put_rate(&mut text[at..at + 16]);
+        while let Some(block) = text[at..].first_chunk::<16>() {
+            let next = s.replace(block);
+            let opened = s.add(block).rate();
+            text[at..at + 16].copy_from_slice(&opened);
             s = next.p8();
             at += 16;
         }
@@ -186,9 +181,7 @@ impl State {
         ensures { result ≡ finalized key.now self }
     {
         let s = self.finish(key);
-        let mut tag = [0; 16];
-        store_pair(&mut tag, s.x3, s.x4);
-        tag
+        block_of(s.x3, s.x4)
     }
 
     // Whether `tag` is the tag; the one that would be right is never written to memory.
@@ -200,49 +193,74 @@ impl State {
     }
 }
 
-fn initialize(key: &[u8; 16], nonce: &[u8; 16]) -> State
-    ensures { result ≡ initialized key.now nonce.now }
-{
-    let s = State {
-        x0: AEAD_IV,
-        x1: load(key, 0),
-        x2: load(key, 8),
-        x3: load(nonce, 0),
-        x4: load(nonce, 8),
-    };
-    s.p12().add_key_low(key)
+/// A ciphertext and a tag that were not sealed under this key and nonce with this associated data.
+#[derive(Clone, Copy, Debug, PartialEq, Eq)]
+pub struct InvalidTag;
+
+impl fmt::Display for InvalidTag {
+    ghost output = { λ _. Some (codes "the tag is not that of this text") };
+
+    fn fmt<W: fmt::Write>(&self, f: &mut fmt::Formatter<W>) -> fmt::Result {
+        write!(f, "the tag is not that of this text")
+    }
 }
 
-fn begin(key: &[u8; 16], nonce: &[u8; 16], ad: &[u8]) -> State
-    ensures { result ≡ begun key.now nonce.now ad.now }
-{
-    initialize(key, nonce).absorb_data(ad).separate()
+impl Error for InvalidTag {}
+
+/// Ascon-AEAD128 with its key, nonce and associated data. A nonce is used once under a key.
+#[derive(Clone, Copy)]
+pub struct Aead<'a> {
+    pub key: &'a [u8; 16],
+    pub nonce: &'a [u8; 16],
+    pub data: &'a [u8],
 }
 
-/// Seals `text` in place and gives the tag.
-pub fn seal(key: &[u8; 16], nonce: &[u8; 16], ad: &[u8], text: &mut [u8]) -> [u8; 16]
-    ensures bytes { text.new ≡ ciphertext key.now nonce.now ad.now text.old }
-    ensures tag { result ≡ tag_of key.now nonce.now ad.now text.old }
-    ensures opens { opened key.now nonce.now ad.now text.new result ≡ Some text.old }
-{
-    are_bytes(key);
-    are_bytes(nonce);
-    are_bytes(ad);
-    are_bytes(text);
-    begin(key, nonce, ad).encrypt(text).finalize(key)
-}
+impl Aead<'_> {
+    fn initialize(self) -> State
+        ensures { result ≡ initialized self.entry.key.now self.entry.nonce.now }
+    {
+        let (x1, x2) = words(self.key);
+        let (x3, x4) = words(self.nonce);
+        let s = State {
+            x0: AEAD_IV,
+            x1,
+            x2,
+            x3,
+            x4,
+        };
+        s.p12().add_key_low(self.key)
+    }
 
-/// Opens `text` in place: whether it opens; where it doesn't, noughts are left.
-pub fn open(key: &[u8; 16], nonce: &[u8; 16], ad: &[u8], text: &mut [u8], tag: &[u8; 16]) -> bool
-    ensures test { result ≡ is_some (opened key.now nonce.now ad.now text.old tag.now) }
-    ensures bytes { text.new ≡ unwrap_or (opened key.now nonce.now ad.now text.old tag.now) (replicate (length text.old) 0) }
-    ensures only { result ≡ true → IsSealing key.now nonce.now ad.now text.new text.old tag.now }
-{
-    are_bytes(key);
-    are_bytes(nonce);
-    are_bytes(ad);
-    are_bytes(text);
-    let opens = begin(key, nonce, ad).decrypt(text).has_tag(key, tag);
-    keep_if(opens, text);
-    opens
+    // The state before the text. It and what it calls are compiled into `seal` and `open`, so that
+    // the state stays in registers and leaves no copy on the stack.
+    #[inline(always)]
+    fn begin(self) -> State
+        ensures { result ≡ begun self.entry.key.now self.entry.nonce.now self.entry.data.now }
+    {
+        self.initialize().absorb_data(self.data).separate()
+    }
+
+    /// Seals `text` in place and gives the tag.
+    pub fn seal(self, text: &mut [u8]) -> [u8; 16]
+        ensures bytes { text.new ≡ ciphertext self.entry.key.now self.entry.nonce.now self.entry.data.now text.old }
+        ensures tag { result ≡ tag_of self.entry.key.now self.entry.nonce.now self.entry.data.now text.old }
+        ensures opens { opened self.entry.key.now self.entry.nonce.now self.entry.data.now text.new result ≡ Some text.old }
+    {
+        are_bytes(text);
+        self.begin().encrypt(text).finalize(self.key)
+    }
+
+    /// Opens `text` in place; where the tag is not its tag, noughts are left.
+    pub fn open(self, text: &mut [u8], tag: &[u8; 16]) -> Result<(), InvalidTag>
+        ensures test { is_ok result ≡ is_some (opened self.entry.key.now self.entry.nonce.now self.entry.data.now text.old tag.now) }
+        ensures bytes { text.new ≡ unwrap_or (opened self.entry.key.now self.entry.nonce.now self.entry.data.now text.old tag.now) (replicate (length text.old) 0) }
+        ensures only { is_ok result ≡ true → IsSealing self.entry.key.now self.entry.nonce.now self.entry.data.now text.new text.old tag.now }
+    {
+        are_bytes(text);
+        if !self.begin().decrypt(text).has_tag(self.key, tag) {
+            text.fill(0);
+            return Err(InvalidTag);
+        }
+        Ok(())
+    }
 }

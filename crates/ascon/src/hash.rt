@@ -1,10 +1,12 @@
 //! Ascon-Hash256 and Ascon-CXOF128.
 
-ghost use Rattle.std.specs.Prelude.{◌≡◌, ◌≤◌, length, is_ok, if◌then◌else◌, nat_le};
+ghost use Rattle.std.specs.Prelude.{◌≡◌, ◌≤◌, Some, codes, length, is_ok, if◌then◌else◌, nat_le};
 ghost use Rattle.ascon.specs.Hash.{add_word as word_added, absorbed_words, words, output, initial as initial_of, hash256 as hash_of, cxof128 as cxof_of, customized};
 
-use crate::blocks::{load, put_padded};
+use crate::blocks::{PAD, last_block, word};
 use crate::state::State;
+use std::error::Error;
+use std::fmt;
 
 // The parameters of Ascon-Hash256 and of Ascon-CXOF128.
 const HASH_IV: u64 = 0x0000_0801_00cc_0002;
@@ -15,8 +17,18 @@ const CXOF_IV: u64 = 0x0000_0800_00cc_0004;
 const STRING_LIMIT: usize = 256;
 
 /// A customization string of more than 256 bytes.
-#[derive(Clone, Copy, Debug)]
+#[derive(Clone, Copy, Debug, PartialEq, Eq)]
 pub struct StringTooLong;
+
+impl fmt::Display for StringTooLong {
+    ghost output = { λ _. Some (codes "the customization string has more than 256 bytes") };
+
+    fn fmt<W: fmt::Write>(&self, f: &mut fmt::Formatter<W>) -> fmt::Result {
+        write!(f, "the customization string has more than 256 bytes")
+    }
+}
+
+impl Error for StringTooLong {}
 
 impl State {
     pub(crate) fn add_word(self, w: u64) -> State
@@ -32,20 +44,17 @@ impl State {
     pub(crate) fn absorb_words(self, message: &[u8]) -> State
         ensures { result ≡ absorbed_words self (words message.now) }
     {
-        let mut s = self;
-        let mut rest = message;
-        while rest.len() >= 8 {
-            s = s.add_word(load(&rest[0..8], 0)).p12();
-            rest = &rest[8..];
-        }
-        let mut block = [0; 8];
-        put_padded(&mut block, rest);
-        s.add_word(load(&block, 0)).p12()
+        let (blocks, tail) = message.as_chunks::<8>();
+        let s = blocks
+            .iter()
+            .fold(self, |s, block| s.add_word(word(block)).p12());
+        s.add_word(word(&last_block(tail, PAD))).p12()
     }
 
     pub(crate) fn squeeze(self, out: &mut [u8])
         ensures { out.new ≡ output (length out.old) self }
     {
+        // By an index, as in `encrypt`; and the last word is apart, since no p[12] follows it.
         let mut s = self;
         let mut at = 0;
         while out.len() - at > 8 {
@@ -53,9 +62,8 @@ impl State {
             s = s.p12();
             at += 8;
         }
-        let last = s.x0.to_le_bytes();
         let n = out.len() - at;
-        out[at..].copy_from_slice(&last[0..n]);
+        out[at..].copy_from_slice(&s.x0.to_le_bytes()[..n]);
     }
 }
 

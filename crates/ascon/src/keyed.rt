@@ -6,7 +6,7 @@ ghost use Rattle.ascon.specs.Hash.{customized};
 ghost use Rattle.ascon.specs.Keyed.{string_of, keyed as keyed_of};
 ghost use Rattle.ascon.specs.declared.purpose.Purpose.TheVariants.{Mark, Key};
 
-use crate::blocks::load;
+use crate::blocks::words;
 use crate::purpose::Purpose;
 use crate::state::State;
 
@@ -27,18 +27,6 @@ const AFTER_KEY_STRING: State = State {
     x4: 0x564f_0461_e6e9_8b46,
 };
 
-fn after_mark_string() -> State
-    ensures { result ≡ customized (string_of Mark) }
-{
-    AFTER_MARK_STRING
-}
-
-fn after_key_string() -> State
-    ensures { result ≡ customized (string_of Key) }
-{
-    AFTER_KEY_STRING
-}
-
 impl Purpose {
     /// The customization string.
     pub fn string(self) -> &'static [u8]
@@ -55,8 +43,8 @@ impl Purpose {
         ensures { result ≡ customized (string_of self) }
     {
         match self {
-            Purpose::Mark => after_mark_string(),
-            Purpose::Key => after_key_string(),
+            Purpose::Mark => AFTER_MARK_STRING,
+            Purpose::Key => AFTER_KEY_STRING,
         }
     }
 }
@@ -64,16 +52,18 @@ impl Purpose {
 fn keyed(purpose: Purpose, key: &[u8; 16], text: &[u8], out: &mut [u8; 16])
     ensures { out.new ≡ keyed_of purpose key.now text.now }
 {
+    let (low, high) = words(key);
     purpose
         .start()
-        .add_word(load(key, 0))
+        .add_word(low)
         .p12()
-        .add_word(load(key, 8))
+        .add_word(high)
         .p12()
         .absorb_words(text)
         .squeeze(out)
 }
 
+// `mark` and `derive` name the two uses: they take other arguments, and C calls one of them.
 /// The mark of a text under a key.
 pub fn mark(key: &[u8; 16], text: &[u8], out: &mut [u8; 16])
     ensures { out.new ≡ keyed_of Mark key.now text.now }
@@ -81,6 +71,7 @@ pub fn mark(key: &[u8; 16], text: &[u8], out: &mut [u8; 16])
     keyed(Purpose::Mark, key, text, out)
 }
 
+// To this crate a role is a byte, as a label is: which roles there are is for the crates above.
 /// The key derived from a key with a label and a role.
 pub fn derive(key: &[u8; 16], label: u8, role: u8, out: &mut [u8; 16])
     ensures { out.new ≡ keyed_of Key key.now (label ∷ role ∷ []) }

@@ -10,7 +10,7 @@ mod purpose;
 mod state;
 mod theorems;
 
-pub use aead::{open, seal};
+pub use aead::{Aead, InvalidTag};
 pub use hash::{StringTooLong, cxof128, hash256};
 pub use keyed::{derive, mark};
 pub use purpose::Purpose;

@@ -1,6 +1,6 @@
 //! The permutations p[12] and p[8]: thin layers by value, each equal to its definition.
 
-ghost use Rattle.std.specs.Prelude.{◌≡◌, ◌<◌, ◌≤◌, drop, slice_index};
+ghost use Rattle.std.specs.Prelude.{◌≡◌, ◌<◌, ◌≤◌, drop};
 ghost use Rattle.ascon.specs.Permutation.{add_constant as constant_added, mix_in as mixed_in, chi_word as chi_of, chi as chi_applied, mix_out as mixed_out, spread as spread_of, diffuse as diffused, round as rounded, rounds as rounds_of, constants, p12 as permuted12, p8 as permuted8};
 
 use crate::state::State;
@@ -19,17 +19,13 @@ fn chi_word(x: u64, y: u64, z: u64) -> u64
 
 // One word of the linear layer.
 fn spread(x: u64, a: u32, b: u32) -> u64
-    requires { (0 < a) × ((a < 64) × ((0 < b) × (b < 64))) }
+    requires some_a { 0 < a }
+    requires a_below_64 { a < 64 }
+    requires some_b { 0 < b }
+    requires b_below_64 { b < 64 }
     ensures { result ≡ spread_of x a b }
 {
     x ^ x.rotate_right(a) ^ x.rotate_right(b)
-}
-
-fn round_constant(i: usize) -> u64
-    requires { i < 12 }
-    ensures { result ≡ slice_index constants i }
-{
-    ROUND_CONSTANTS[i]
 }
 
 impl State {
@@ -95,25 +91,25 @@ impl State {
         self.add_constant(c).mix_in().chi().mix_out().diffuse()
     }
 
-    // The rounds from the one with the given number on: a loop, so that it is small enough to be
-    // compiled into its callers, where the state stays in registers.
+    // The rounds from the one with the given number on: one after another over the table, so that
+    // it is small enough to be compiled into its callers, where the state stays in registers.
     fn rounds_from(self, first: usize) -> State
         requires { first ≤ 12 }
         ensures { result ≡ rounds_of (drop first constants) self }
     {
-        let mut s = self;
-        for i in first..12 {
-            s = s.round(round_constant(i));
-        }
-        s
+        ROUND_CONSTANTS[first..]
+            .iter()
+            .fold(self, |s, c| s.round(*c))
     }
 
+    // `p8` and `p12` are the standard's names, so that no caller counts rounds.
     pub(crate) fn p8(self) -> State
         ensures { result ≡ permuted8 self }
     {
         self.rounds_from(4)
     }
 
+    /// The permutation p[12].
     pub fn p12(self) -> State
         ensures { result ≡ permuted12 self }
     {

@@ -1,6 +1,7 @@
-/// The permutation's state: five 64-bit words. It has a file of its own, so that the
-/// definitions in specs/ can speak of it and the code can cite those definitions.
-#[derive(Clone, Copy)]
+/// The permutation's state: five 64-bit words, in C an array of five. It has a file of its own, so
+/// that the definitions in specs/ can speak of it and the code can cite those definitions.
+#[repr(C)]
+#[derive(Clone, Copy, Debug, PartialEq, Eq)]
 pub struct State {
     pub x0: u64,
     pub x1: u64,

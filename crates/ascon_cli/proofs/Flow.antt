@@ -19,6 +19,12 @@ cuts p (x ∷ a) b = go (eqb x 10) (cuts [] a b) (cuts (p ++ x ∷ []) a b)
     go true h i = (ap (λ z. reply p ++ 10 ∷ z) h.0 ∙ sym (append_assoc (reply p) (10 ∷ replies [] a) (replies (pending [] a) b)), h.1)
     go false h i = i
 
+pub replies-append : (p a b : List ℕ) → replies p (a ++ b) ≡ replies p a ++ replies (pending p a) b
+replies-append p a b = (cuts p a b).0
+
+pub pending-append : (p a b : List ℕ) → pending p (a ++ b) ≡ pending (pending p a) b
+pending-append p a b = (cuts p a b).1
+
 -- Without a newline nothing is answered, and the line grows.
 pub quiet : (p s : List ℕ) (e : ℕ) → e ≤ length s → ((k : ℕ) → k < e → get_or s k 0 ≡ 10 → ⊥) → (replies p (take e s) ≡ []) × (pending p (take e s) ≡ p ++ take e s)
 unfolding replies pending
@@ -83,3 +89,6 @@ pub line_by_line : LineByLine
 line_by_line ls t h k =
     let f = lines_first ls t h k in
     ap (λ z. z ++ last_reply (pending [] (ended-lines ls ++ t))) f.0 ∙ ap (λ z. answers ls ++ last_reply z) f.1
+
+-- Both theorems, for the check to find.
+pub ruleset theorems = (replies-append, pending-append, line_by_line)

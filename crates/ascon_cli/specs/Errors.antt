@@ -4,6 +4,8 @@ use Rattle.ascon_cli.specs.declared.fault.LineError.{LineError}
 use Rattle.ascon_cli.specs.declared.fault.LineError.TheVariants.{UnknownCommand, ArgumentCount, NotHexadecimal, KeyLength, StringLength, OutputLength}
 use Rattle.ascon_cli.specs.declared.fault.Fault.{Fault}
 use Rattle.ascon_cli.specs.declared.fault.Fault.TheVariants.{Line, Memory}
+use Rattle.lines.specs.declared.hex.HexError.{HexError}
+use Rattle.lines.specs.declared.hex.HexError.TheVariants.{NotHex}
 use Rattle.std.specs.declared.alloc.Global.{Global}
 
 -- The answer to a line that cannot be read.
@@ -26,10 +28,15 @@ Agrees view s (Ok y) = s ≡ Ok (view y)
 Agrees view s (Err (Line e)) = s ≡ Err e
 Agrees view s (Err Memory) = Unit {0}
 
--- A text has grown by the message; nothing is reported for want of memory.
-abbrev pub Reports : Fault → List ℕ → List ℕ → Type 0
-Reports (Line e) before after = after ≡ before ++ message_of e
-Reports Memory before after = ⊥
+-- A function's result is just what the definition says, seen through view.
+abbrev pub Gives : {X Y : Type 0} → (Y → X) → Result X LineError → Result Y LineError → Type 0
+Gives view s (Ok y) = s ≡ Ok (view y)
+Gives view s (Err e) = s ≡ Err e
+
+-- What digits that cannot be read come to; the other case is want of memory.
+abbrev pub fault_of : HexError → Fault
+fault_of NotHex = Line NotHexadecimal
+fault_of _ = Memory
 
 -- On success a text has grown by more, and by nothing else.
 abbrev pub Grew : {X Y : Type 0} → Result X Y → Vec ℕ Global → Vec ℕ Global → List ℕ → Type 0

@@ -30,6 +30,7 @@ abbrev pub Line : List ℕ → Type 0
 Line [] = Unit {0}
 Line (b ∷ bs) = (b ≢ 10) × Line bs
 
+-- Each of these is a line.
 abbrev pub Lines : List (List ℕ) → Type 0
 Lines [] = Unit {0}
 Lines (l ∷ ls) = Line l × Lines ls

@@ -1,10 +1,15 @@
 //! Why a line gets no result.
 
-ghost use Rattle.ascon_cli.specs.Errors.{message_of};
-ghost use Rattle.std.specs.Prelude.{◌≡◌};
+ghost use Rattle.ascon_cli.specs.Errors.{fault_of, message_of};
+ghost use Rattle.ascon_cli.specs.declared.fault.Fault.TheVariants.{Line};
+ghost use Rattle.std.specs.Prelude.{◌≡◌, Some};
+
+use lines::hex::HexError;
+use std::error::Error;
+use std::fmt;
 
 /// What is wrong with a line.
-#[derive(Clone, Copy)]
+#[derive(Clone, Copy, PartialEq, Eq, Debug)]
 pub enum LineError {
     UnknownCommand,
     ArgumentCount,
@@ -14,25 +19,46 @@ pub enum LineError {
     OutputLength,
 }
 
-impl LineError {
-    /// The answer to such a line.
-    pub fn message(self) -> &'static [u8]
-        ensures { result.now ≡ message_of self }
-    {
+/// The answer to such a line.
+impl fmt::Display for LineError {
+    ghost output = { λ e. Some (message_of e) };
+
+    fn fmt<W: fmt::Write>(&self, f: &mut fmt::Formatter<W>) -> fmt::Result {
         match self {
-            LineError::UnknownCommand => b"error: unknown command",
-            LineError::ArgumentCount => b"error: wrong number of arguments",
-            LineError::NotHexadecimal => b"error: not hexadecimal",
-            LineError::KeyLength => b"error: key and nonce take 16 bytes",
-            LineError::StringLength => b"error: the string takes at most 256 bytes",
-            LineError::OutputLength => b"error: the length is a number from 0 to 65536",
+            LineError::UnknownCommand => f.write_str("error: unknown command"),
+            LineError::ArgumentCount => f.write_str("error: wrong number of arguments"),
+            LineError::NotHexadecimal => f.write_str("error: not hexadecimal"),
+            LineError::KeyLength => f.write_str("error: key and nonce take 16 bytes"),
+            LineError::StringLength => f.write_str("error: the string takes at most 256 bytes"),
+            LineError::OutputLength => f.write_str("error: the length is a number from 0 to 65536"),
         }
     }
 }
 
+impl Error for LineError {}
+
 /// Why no request was read: the line is wrong, or there is no memory.
-#[derive(Clone, Copy)]
+#[derive(Clone, Copy, PartialEq, Eq, Debug)]
 pub enum Fault {
     Line(LineError),
     Memory,
+}
+
+impl From<LineError> for Fault {
+    ghost from_gives = { λ e f. f ≡ Line e };
+
+    fn from(error: LineError) -> Fault {
+        Fault::Line(error)
+    }
+}
+
+impl From<HexError> for Fault {
+    ghost from_gives = { λ e f. f ≡ fault_of e };
+
+    fn from(error: HexError) -> Fault {
+        match error {
+            HexError::NotHex => Fault::Line(LineError::NotHexadecimal),
+            HexError::Memory => Fault::Memory,
+        }
+    }
 }

@@ -1,10 +1,11 @@
 //! Arguments of a bounded size.
+// Two types: a key is lent as an array and a label as a slice, and each has an error of its own.
 
 ghost use Rattle.std.specs.Prelude.{◌≡◌, ◌≤◌, length, vec_len};
-ghost use Rattle.ascon_cli.specs.Errors.{Agrees};
+ghost use Rattle.ascon_cli.specs.Errors.{Gives};
 ghost use Rattle.ascon_cli.specs.Fields.{short, sized};
 
-use crate::fault::{Fault, LineError};
+use crate::fault::LineError;
 use crate::secret::Secret;
 
 /// A key or a nonce: sixteen bytes.
@@ -14,24 +15,24 @@ pub struct Key {
     ghost fits: { vec_len secret.bytes ≡ 16 },
 }
 
-impl Key {
-    /// The bytes, if they are sixteen.
-    pub fn new(secret: Secret) -> Result<Key, Fault>
-        ensures { Agrees (λ k. k.secret.bytes.items) (sized secret.bytes.items) result }
-    {
+impl TryFrom<Secret> for Key {
+    type Error = LineError;
+
+    ghost try_from_gives = { λ s r. Gives (λ k. k.secret.bytes.items) (sized s.bytes.items) r };
+
+    fn try_from(secret: Secret) -> Result<Key, LineError> {
         if secret.bytes.len() == 16 {
             return Ok(Key { secret });
         }
-        Err(Fault::Line(LineError::KeyLength))
+        Err(LineError::KeyLength)
     }
+}
 
+impl Key {
     pub fn as_array(&self) -> &[u8; 16]
         ensures { result.now ≡ self.now.secret.bytes.items }
     {
-        match <&[u8; 16]>::try_from(self.secret.bytes.as_slice()) {
-            Ok(bytes) => bytes,
-            Err(_) => unreachable(),
-        }
+        self.secret.bytes.as_slice().first_chunk().unwrap()
     }
 }
 
@@ -42,17 +43,20 @@ pub struct Label {
     ghost fits: { vec_len secret.bytes ≤ 256 },
 }
 
-impl Label {
-    /// The bytes, if they are not too many.
-    pub fn new(secret: Secret) -> Result<Label, Fault>
-        ensures { Agrees (λ l. l.secret.bytes.items) (short secret.bytes.items) result }
-    {
+impl TryFrom<Secret> for Label {
+    type Error = LineError;
+
+    ghost try_from_gives = { λ s r. Gives (λ l. l.secret.bytes.items) (short s.bytes.items) r };
+
+    fn try_from(secret: Secret) -> Result<Label, LineError> {
         if secret.bytes.len() <= 256 {
             return Ok(Label { secret });
         }
-        Err(Fault::Line(LineError::StringLength))
+        Err(LineError::StringLength)
     }
+}
 
+impl Label {
     pub fn as_slice(&self) -> &[u8]
         ensures value { result.now ≡ self.now.secret.bytes.items }
         ensures bound { length result.now ≤ 256 }

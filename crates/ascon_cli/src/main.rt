@@ -8,10 +8,11 @@ mod fault;
 mod key;
 mod reply;
 mod request;
+mod responder;
 mod secret;
 mod split;
-mod stream;
 
+use responder::Responder;
 use secret::Secret;
 use std::io;
 use std::io::{Read, Write};
@@ -32,26 +33,23 @@ fn main(rt: HostRuntime) -> ExitCode {
 
 // What was answered before a failure is written all the same.
 fn run(rt: &HostRuntime) -> io::Result<()> {
-    let mut out = Secret::new(rt.alloc());
-    let result = answer_input(rt, &mut out);
-    write_out(rt, &mut out)?;
+    let mut responder = Responder::new(rt.alloc());
+    let result = answer_input(rt, &mut responder);
+    write_out(rt, &mut responder.out)?;
     result
 }
 
-fn answer_input(rt: &HostRuntime, out: &mut Secret) -> io::Result<()> {
-    let heap = rt.alloc();
-    let mut input = Secret {
-        bytes: vec![in heap; 0; BUFFER]?,
-    };
-    let mut line = Secret::new(heap);
+fn answer_input(rt: &HostRuntime, responder: &mut Responder) -> io::Result<()> {
+    let mut input = Secret::zeros(rt.alloc(), BUFFER)?;
+    // `loop` has no number that shows its end, so the reads are counted.
     for _ in 0..u64::MAX {
         let count = read_some(rt, &mut input)?;
         if count == 0 {
             break;
         }
-        answer_all(rt, &mut line, &input.bytes[0..count], out)?;
+        answer_all(rt, &input.bytes[..count], responder)?;
     }
-    stream::take_last(heap, line.bytes.as_slice(), &mut out.bytes)?;
+    responder.take_last()?;
     Ok(())
 }
 
@@ -62,18 +60,13 @@ fn read_some(rt: &HostRuntime, input: &mut Secret) -> io::Result<usize>
 }
 
 // Answers the lines that end in `input`, and writes the answers out as they grow many.
-fn answer_all(
-    rt: &HostRuntime,
-    line: &mut Secret,
-    input: &[u8],
-    out: &mut Secret,
-) -> io::Result<()> {
+fn answer_all(rt: &HostRuntime, input: &[u8], responder: &mut Responder) -> io::Result<()> {
     let mut rest = input;
     while !rest.is_empty() {
-        let taken = stream::take_line(rt.alloc(), line, rest, &mut out.bytes)?;
+        let taken = responder.take_line(rest)?;
         rest = &rest[taken..];
-        if out.bytes.len() >= BUFFER {
-            write_out(rt, out)?;
+        if responder.out.bytes.len() >= BUFFER {
+            write_out(rt, &mut responder.out)?;
         }
     }
     Ok(())

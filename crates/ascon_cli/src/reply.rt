@@ -1,73 +1,42 @@
-//! The line that answers a line.
+//! The results that lines ask for.
 
-ghost use Rattle.std.specs.Prelude.{◌≡◌, ◌-◌, ◌≤◌, length, drop, Some, None, MatchOption, OnOk};
-ghost use Rattle.ascon_cli.specs.Errors.{Grew, Reports};
-ghost use Rattle.ascon_cli.specs.Format.{reply, result_of, shown, unsealed};
+ghost use Rattle.std.specs.Prelude.{◌≡◌, Some, None, MatchOption};
+ghost use Rattle.ascon_cli.specs.Errors.{Grew};
+ghost use Rattle.ascon_cli.specs.Format.{result_of, shown, unsealed};
 ghost use Rattle.ascon_cli.specs.Views.{asked_of, held, output_of, parts_of};
 ghost use Rattle.ascon_cli.specs.Format.{hashing, opening, sealing};
 
-use crate::fault::Fault;
-use crate::request::{Output, Packet, Request, read_request};
+use crate::request::{Output, Packet, Request};
 use crate::secret::Secret;
-use lines::hex;
-use std::alloc::{AllocError, Global};
+use std::alloc::AllocError;
 
-/// Adds the answer to `line`, without a newline, to `out`.
-pub fn answer(heap: Global, line: &[u8], out: &mut Vec<u8>) -> Result<(), AllocError>
-    ensures { Grew result out.old out.new (reply line.now) }
-{
-    match read_request(heap, line) {
-        Ok(request) => perform(heap, request, out),
-        Err(fault) => report(fault, out),
-    }
-}
-
-// The program goes on after a line that cannot be read, and not for want of memory.
-fn report(fault: Fault, out: &mut Vec<u8>) -> Result<(), AllocError>
-    ensures { OnOk result (Reports fault out.old.items out.new.items) }
-{
-    match fault {
-        Fault::Line(error) => out.extend_from_slice(error.message()),
-        Fault::Memory => Err(AllocError),
-    }
-}
-
-fn perform(heap: Global, request: Request, out: &mut Vec<u8>) -> Result<(), AllocError>
-    ensures { Grew result out.old out.new (result_of (asked_of request)) }
+/// Adds the result of `request` to `out`.
+pub fn perform(request: Request, out: &mut Secret) -> Result<(), AllocError>
+    ensures { Grew result out.old.bytes out.new.bytes (result_of (asked_of request)) }
 {
     match request {
         Request::Seal(packet) => seal(packet, out),
         Request::Open(packet) => open(packet, out),
         Request::Hash(text) => hash(text, out),
-        Request::Xof(output) => xof(heap, output, out),
+        Request::Xof(output) => xof(output, out),
     }
 }
 
-fn seal(packet: Packet, out: &mut Vec<u8>) -> Result<(), AllocError>
-    ensures { Grew result out.old out.new (result_of (sealing (parts_of packet))) }
+fn seal(packet: Packet, out: &mut Secret) -> Result<(), AllocError>
+    ensures { Grew result out.old.bytes out.new.bytes (result_of (sealing (parts_of packet))) }
 {
-    let Packet {
-        key,
-        nonce,
-        associated,
-        mut text,
-    } = packet;
-    let tag = ascon::seal(
-        key.as_array(),
-        nonce.as_array(),
-        associated.bytes.as_slice(),
-        text.bytes.as_mut_slice(),
-    );
-    hex::encode_onto(text.bytes.as_slice(), out)?;
-    hex::encode_onto(&tag, out)
+    let Packet { context, mut text } = packet;
+    let tag = context.aead().seal(text.bytes.as_mut_slice());
+    out.extend_in_digits(text.bytes.as_slice())?;
+    out.extend_in_digits(&tag)
 }
 
-fn open(packet: Packet, out: &mut Vec<u8>) -> Result<(), AllocError>
-    ensures { Grew result out.old out.new (result_of (opening (parts_of packet))) }
+fn open(packet: Packet, out: &mut Secret) -> Result<(), AllocError>
+    ensures { Grew result out.old.bytes out.new.bytes (result_of (opening (parts_of packet))) }
 {
     match unseal(packet) {
         Some(text) => show(text.bytes.as_slice(), out),
-        None => out.extend_from_slice(b"refused"),
+        None => out.extend(b"refused"),
     }
 }
 
@@ -75,68 +44,41 @@ fn open(packet: Packet, out: &mut Vec<u8>) -> Result<(), AllocError>
 fn unseal(packet: Packet) -> Option<Secret>
     ensures { MatchOption result (unsealed (parts_of packet) ≡ None) (λ s. unsealed (parts_of packet) ≡ Some (held s)) }
 {
-    let Packet {
-        key,
-        nonce,
-        associated,
-        mut text,
-    } = packet;
-    let length = text.bytes.len();
-    if length < 16 {
-        return None;
-    }
-    let tag = last_sixteen(text.bytes.as_slice());
-    text.bytes.truncate(length - 16);
-    if ascon::open(
-        key.as_array(),
-        nonce.as_array(),
-        associated.bytes.as_slice(),
-        text.bytes.as_mut_slice(),
-        &tag,
-    ) {
-        return Some(text);
-    }
-    None
+    let Packet { context, mut text } = packet;
+    let (sealed, tag) = text.bytes.as_slice().split_last_chunk::<16>()?;
+    let (length, tag) = (sealed.len(), *tag);
+    text.truncate(length);
+    context.aead().open(text.bytes.as_mut_slice(), &tag).ok()?;
+    Some(text)
 }
 
-fn hash(text: Secret, out: &mut Vec<u8>) -> Result<(), AllocError>
-    ensures { Grew result out.old out.new (result_of (hashing (held text))) }
+fn hash(text: Secret, out: &mut Secret) -> Result<(), AllocError>
+    ensures { Grew result out.old.bytes out.new.bytes (result_of (hashing (held text))) }
 {
     let mut digest = [0; 32];
     ascon::hash256(text.bytes.as_slice(), &mut digest);
-    hex::encode_onto(&digest, out)
+    out.extend_in_digits(&digest)
 }
 
-fn xof(heap: Global, output: Output, out: &mut Vec<u8>) -> Result<(), AllocError>
-    ensures { Grew result out.old out.new (result_of (output_of output)) }
+fn xof(output: Output, out: &mut Secret) -> Result<(), AllocError>
+    ensures { Grew result out.old.bytes out.new.bytes (result_of (output_of output)) }
 {
-    let mut bytes = vec![in heap; 0; output.length]?;
-    match ascon::cxof128(
+    let mut squeezed = Secret::zeros(out.heap(), output.length)?;
+    ascon::cxof128(
         output.label.as_slice(),
         output.text.bytes.as_slice(),
-        bytes.as_mut_slice(),
-    ) {
-        Ok(()) => show(bytes.as_slice(), out),
-        Err(_) => unreachable(),
-    }
+        squeezed.bytes.as_mut_slice(),
+    )
+    .unwrap();
+    show(squeezed.bytes.as_slice(), out)
 }
 
 // Adds the digits of `bytes`, or a dash if there are none.
-fn show(bytes: &[u8], out: &mut Vec<u8>) -> Result<(), AllocError>
-    ensures { Grew result out.old out.new (shown bytes.now) }
+fn show(bytes: &[u8], out: &mut Secret) -> Result<(), AllocError>
+    ensures { Grew result out.old.bytes out.new.bytes (shown bytes.now) }
 {
     if bytes.is_empty() {
-        return out.extend_from_slice(b"-");
+        return out.extend(b"-");
     }
-    hex::encode_onto(bytes, out)
-}
-
-fn last_sixteen(bytes: &[u8]) -> [u8; 16]
-    requires { 16 ≤ length bytes.now }
-    ensures { result ≡ drop (length bytes.now - 16) bytes.now }
-{
-    match <[u8; 16]>::try_from(&bytes[bytes.len() - 16..]) {
-        Ok(tag) => tag,
-        Err(_) => unreachable(),
-    }
+    out.extend_in_digits(bytes)
 }

@@ -5,21 +5,43 @@ ghost use Rattle.ascon_cli.specs.Errors.{Agrees};
 ghost use Rattle.ascon_cli.specs.Format.{message, output, parts, request};
 ghost use Rattle.ascon_cli.specs.Views.{asked_of, held, output_of, parts_of};
 ghost use Rattle.ascon_cli.specs.Words.{spaced};
+ghost use Rattle.ascon_cli.specs.declared.fault.LineError.TheVariants.{UnknownCommand};
+ghost use Rattle.std.specs.Option.{ok_or};
 ghost use Rattle.std.specs.Prelude.{◌≡◌};
 
 use crate::fault::{Fault, LineError};
 use crate::key::{Key, Label};
 use crate::secret::Secret;
-use crate::split::same;
 use crate::{arguments, split};
+use ascon::Aead;
 use std::alloc::Global;
+
+/// What a text is sealed under.
+#[derive(Drop)]
+pub struct Context {
+    pub key: Key,
+    pub nonce: Key,
+    pub associated: Secret,
+}
+
+impl Context {
+    pub fn aead(&self) -> Aead<'_>
+        ensures key { result.key.now ≡ held self.now.key.secret }
+        ensures nonce { result.nonce.now ≡ held self.now.nonce.secret }
+        ensures associated { result.«data».now ≡ held self.now.associated }
+    {
+        Aead {
+            key: self.key.as_array(),
+            nonce: self.nonce.as_array(),
+            data: self.associated.bytes.as_slice(),
+        }
+    }
+}
 
 /// The arguments of `seal` and `open`; of `open`, `text` is the sealed text and its tag.
 #[derive(Drop)]
 pub struct Packet {
-    pub key: Key,
-    pub nonce: Key,
-    pub associated: Secret,
+    pub context: Context,
     pub text: Secret,
 }
 
@@ -40,7 +62,7 @@ pub enum Request {
     Xof(Output),
 }
 
-#[derive(Clone, Copy)]
+#[derive(Clone, Copy, PartialEq, Eq, Debug)]
 pub enum Command {
     Seal,
     Open,
@@ -48,53 +70,53 @@ pub enum Command {
     Xof,
 }
 
+impl TryFrom<&[u8]> for Command {
+    type Error = LineError;
+
+    ghost try_from_gives = { λ w r. r ≡ ok_or (command_of w.now) UnknownCommand };
+
+    fn try_from(word: &[u8]) -> Result<Command, LineError> {
+        match word {
+            b"seal" => Ok(Command::Seal),
+            b"open" => Ok(Command::Open),
+            b"hash" => Ok(Command::Hash),
+            b"xof" => Ok(Command::Xof),
+            _ => Err(LineError::UnknownCommand),
+        }
+    }
+}
+
 /// What `line` asks for.
 pub fn read_request(heap: Global, line: &[u8]) -> Result<Request, Fault>
     ensures { Agrees asked_of (request line.now) result }
 {
     let (word, rest) = split::split_word(line);
-    match command_named(word) {
-        Some(Command::Seal) => Ok(Request::Seal(read_packet(heap, rest)?)),
-        Some(Command::Open) => Ok(Request::Open(read_packet(heap, rest)?)),
-        Some(Command::Hash) => Ok(Request::Hash(read_message(heap, rest)?)),
-        Some(Command::Xof) => Ok(Request::Xof(read_output(heap, rest)?)),
-        None => Err(Fault::Line(LineError::UnknownCommand)),
+    match Command::try_from(word)? {
+        Command::Seal => Ok(Request::Seal(read_packet(heap, rest)?)),
+        Command::Open => Ok(Request::Open(read_packet(heap, rest)?)),
+        Command::Hash => Ok(Request::Hash(read_message(heap, rest)?)),
+        Command::Xof => Ok(Request::Xof(read_output(heap, rest)?)),
     }
 }
 
-fn command_named(word: &[u8]) -> Option<Command>
-    ensures { result ≡ command_of word.now }
-{
-    if same(word, b"seal") {
-        Some(Command::Seal)
-    } else if same(word, b"open") {
-        Some(Command::Open)
-    } else if same(word, b"hash") {
-        Some(Command::Hash)
-    } else if same(word, b"xof") {
-        Some(Command::Xof)
-    } else {
-        None
-    }
-}
-
-// All arguments are read before their sizes are looked at.
+// All arguments are counted before one is read, and read before their sizes are looked at.
 fn read_packet(heap: Global, rest: &[u8]) -> Result<Packet, Fault>
     ensures { Agrees parts_of (parts (spaced rest.now)) result }
 {
-    let words = split::packet_words(rest)?;
-    let key = arguments::bytes(heap, words.key)?;
-    let nonce = arguments::bytes(heap, words.nonce)?;
-    let associated = arguments::bytes(heap, words.data)?;
-    let text = arguments::bytes(heap, words.text)?;
-    let key = Key::new(key)?;
-    let nonce = Key::new(nonce)?;
-    Ok(Packet {
-        key,
-        nonce,
+    let (key, rest) = split::next_word(rest)?;
+    let (nonce, rest) = split::next_word(rest)?;
+    let (associated, rest) = split::next_word(rest)?;
+    let text = split::only_word(rest)?;
+    let key = arguments::bytes(heap, key)?;
+    let nonce = arguments::bytes(heap, nonce)?;
+    let associated = arguments::bytes(heap, associated)?;
+    let text = arguments::bytes(heap, text)?;
+    let context = Context {
+        key: Key::try_from(key)?,
+        nonce: Key::try_from(nonce)?,
         associated,
-        text,
-    })
+    };
+    Ok(Packet { context, text })
 }
 
 fn read_message(heap: Global, rest: &[u8]) -> Result<Secret, Fault>
@@ -106,14 +128,14 @@ fn read_message(heap: Global, rest: &[u8]) -> Result<Secret, Fault>
 fn read_output(heap: Global, rest: &[u8]) -> Result<Output, Fault>
     ensures { Agrees output_of (output (spaced rest.now)) result }
 {
-    let words = split::xof_words(rest)?;
-    let string = arguments::bytes(heap, words.string)?;
-    let text = arguments::bytes(heap, words.text)?;
-    let label = Label::new(string)?;
-    let length = arguments::output_length(words.length)?;
+    let (string, rest) = split::next_word(rest)?;
+    let (text, rest) = split::next_word(rest)?;
+    let length = split::only_word(rest)?;
+    let string = arguments::bytes(heap, string)?;
+    let text = arguments::bytes(heap, text)?;
     Ok(Output {
-        label,
+        label: Label::try_from(string)?,
         text,
-        length,
+        length: arguments::output_length(length)?,
     })
 }

@@ -1,39 +1,60 @@
 -- The steps of decoding and encoding, and that decoding reads back what was encoded.
-use Rattle.std.proofs.Common.{◌≡◌, ℕ, ◌+◌, ◌*◌, ◌/◌, ◌%◌, ◌<◌, ◌≤◌, Bool, eqb, List, [], ◌∷◌, ◌++◌, map, length, get_or, drop, Some, None, MatchBool, Option, sym, refl, ap, ◌∙◌, append_assoc, append-nil, arith, rules}
+use Rattle.std.proofs.Common.{◌≡◌, ℕ, zero, suc, ◌+◌, ◌*◌, ◌/◌, ◌%◌, ◌<◌, ◌≤◌, List, [], ◌∷◌, ◌++◌, map, length, get_or, drop, Some, None, Option, sym, refl, ap, ◌∙◌, append_assoc, arith, rules}
 use Rattle.std.proofs.lemmas.List.{at_drop_all, at_drop_more}
+use Rattle.std.specs.Simd.{first_chunks}
 use Rattle.lines.specs.Hex.{byte, digit, decoded, encoded, following, onto, sign, small, ReadsBack, WritesBack}
 
--- Two digits and the rest.
-pub decoded_pair : (ds : List ℕ) → 2 ≤ length ds → decoded ds ≡ onto (byte (digit (get_or ds 0 0)) (digit (get_or ds 1 0))) (decoded (drop 2 ds))
+-- What pairs of digits stand for, each pair for a byte.
+unfoldable pub decoded_pairs : List (List ℕ) → Option (List ℕ)
+decoded_pairs [] = Some []
+decoded_pairs (p ∷ ps) = onto (byte (digit (get_or p 0 0)) (digit (get_or p 1 0))) (decoded_pairs ps)
+
+decoded_even : (k : ℕ) (ds : List ℕ) → length ds ≡ 2 * k → decoded ds ≡ decoded_pairs (first_chunks 2 k ds)
+unfolding decoded decoded_pairs
+decoded_even zero [] h = refl
+decoded_even zero (a ∷ ds) h = let z : ⊥ = omega arith in absurd z
+decoded_even (suc k) [] h = let z : ⊥ = omega arith in absurd z
+decoded_even (suc k) (a ∷ []) h = let z : ⊥ = omega arith in absurd z
+decoded_even (suc k) (a ∷ b ∷ ds) h = ap (onto (byte (digit a) (digit b))) (decoded_even k ds (omega arith))
+
+-- An even number of digits is read by the pair.
+pub decoded-pairs : (ds : List ℕ) (ps : List (List ℕ)) → length ds % 2 < 1 → ps ≡ first_chunks 2 (length ds / 2) ds → decoded ds ≡ decoded_pairs ps
+decoded-pairs ds ps h e = decoded_even (length ds / 2) ds (omega arith) ∙ sym (ap decoded_pairs e)
+
+onto_none : (o : Option ℕ) → onto o None ≡ None
+onto_none None = refl
+onto_none (Some b) = refl
+
+-- An odd number of digits stands for nothing.
+pub decoded_odd : (ds : List ℕ) → 0 < length ds % 2 → decoded ds ≡ None
 unfolding decoded
-decoded_pair [] h = let z : ⊥ = omega arith in absurd z
-decoded_pair (a ∷ []) h = let z : ⊥ = omega arith in absurd z
-decoded_pair (a ∷ b ∷ ds) h = refl
+decoded_odd [] h = let z : ⊥ = omega arith in absurd z
+decoded_odd (a ∷ []) h = refl
+decoded_odd (a ∷ b ∷ ds) h = ap (onto (byte (digit a) (digit b))) (decoded_odd ds (omega arith)) ∙ onto_none _
+
+-- One pair, and those after it.
+decoded_pairs-at : (ps : List (List ℕ)) (i : ℕ) (o : Option ℕ) → i < length ps → o ≡ byte (digit (get_or (get_or ps i []) 0 0)) (digit (get_or (get_or ps i []) 1 0)) → decoded_pairs (drop i ps) ≡ onto o (decoded_pairs (drop (i + 1) ps))
+unfolding decoded_pairs
+decoded_pairs-at ps i o h e = at_drop_more decoded_pairs ps i [] h ∙ ap (λ b. onto b (decoded_pairs (drop (i + 1) ps))) (sym e)
 
 following_push : (bs : List ℕ) (b : ℕ) (o : Option (List ℕ)) → following bs (following (b ∷ []) o) ≡ following (bs ++ b ∷ []) o
 following_push bs b None = refl
 following_push bs b (Some cs) = ap Some (sym (append_assoc bs (b ∷ []) cs))
 
--- A byte read moves from the digits to the bytes.
-pub decoded-step : (bs ds : List ℕ) (b : ℕ) → 2 ≤ length ds → Some b ≡ byte (digit (get_or ds 0 0)) (digit (get_or ds 1 0)) → following (bs ++ b ∷ []) (decoded (drop 2 ds)) ≡ following bs (decoded ds)
-decoded-step bs ds b h e =
-    let p = following_push bs b (decoded (drop 2 ds)) in
-    let q : decoded ds ≡ onto (Some b) (decoded (drop 2 ds)) = decoded_pair ds h ∙ ap (λ o. onto o (decoded (drop 2 ds))) (sym e) in
-    sym (ap (following bs) q ∙ p)
+-- A byte read moves from the pairs to the bytes.
+pub decoded-step : (bs : List ℕ) (ps : List (List ℕ)) (i b : ℕ) → i < length ps → Some b ≡ byte (digit (get_or (get_or ps i []) 0 0)) (digit (get_or (get_or ps i []) 1 0)) → following (bs ++ b ∷ []) (decoded_pairs (drop (i + 1) ps)) ≡ following bs (decoded_pairs (drop i ps))
+decoded-step bs ps i b h e = sym (ap (following bs) (decoded_pairs-at ps i (Some b) h e) ∙ following_push bs b (decoded_pairs (drop (i + 1) ps)))
 
-pub decoded_bad : (ds : List ℕ) → 2 ≤ length ds → None ≡ byte (digit (get_or ds 0 0)) (digit (get_or ds 1 0)) → decoded ds ≡ None
-decoded_bad ds h e = decoded_pair ds h ∙ ap (λ o. onto o (decoded (drop 2 ds))) (sym e)
+pub decoded_bad : (ps : List (List ℕ)) (i : ℕ) → i < length ps → None ≡ byte (digit (get_or (get_or ps i []) 0 0)) (digit (get_or (get_or ps i []) 1 0)) → decoded_pairs (drop i ps) ≡ None
+decoded_bad ps i h e = decoded_pairs-at ps i None h e
+
+pub decoded_end : (ps : List (List ℕ)) (i : ℕ) → length ps ≤ i → decoded_pairs (drop i ps) ≡ Some []
+unfolding decoded_pairs
+decoded_end ps i h = at_drop_all decoded_pairs ps i h
 
 pub following_none : (bs : List ℕ) (o : Option (List ℕ)) → following bs o ≡ None → o ≡ None
 following_none bs None e = refl
 following_none bs (Some cs) e = let z : ◌≡◌ {A = ℕ} 0 1 = cc in let y : ⊥ = omega arith in absurd y
-
--- The end of the digits: all have been read, or one is left over.
-pub decoded_end : (bs ds cs : List ℕ) (o : Option (List ℕ)) (r : Bool) → length ds < 2 → r ≡ eqb (length ds) 0 → following bs (decoded ds) ≡ following cs o → MatchBool r (following cs o ≡ Some bs) (o ≡ None)
-unfolding decoded
-decoded_end bs [] cs o r h e f = rw e (sym f ∙ ap Some (append-nil bs))
-decoded_end bs (a ∷ []) cs o r h e f = rw e (following_none cs o (sym f))
-decoded_end bs (a ∷ b ∷ ds) cs o r h e f = let z : ⊥ = omega arith in absurd z
 
 -- One byte's digits.
 pub encoded-step : (bs : List ℕ) (i : ℕ) → i < length bs → encoded (drop i bs) ≡ sign (get_or bs i 0 / 16) ∷ sign (get_or bs i 0 % 16) ∷ encoded (drop (i + 1) bs)
@@ -101,13 +122,5 @@ writes_back [] bs e = let q : bs ≡ [] = cc in ap encoded q
 writes_back (h ∷ []) bs e = never bs _ e
 writes_back (h ∷ l ∷ ds) bs e = write_pair h l ds bs (digit h) (digit l) (decoded ds) refl refl (λ cs f. writes_back ds cs f) e
 
--- Two digits for each byte.
-pub length-encoded : (bs : List ℕ) → length (encoded bs) ≡ 2 * length bs
-unfolding encoded
-length-encoded [] = refl
-length-encoded (b ∷ bs) = let e = length-encoded bs in omega arith
-
-pub encoded-append : (bs cs : List ℕ) → encoded (bs ++ cs) ≡ encoded bs ++ encoded cs
-unfolding encoded
-encoded-append [] cs = refl
-encoded-append (b ∷ bs) cs = ap (λ ds. sign (b / 16) ∷ sign (b % 16) ∷ ds) (encoded-append bs cs)
+-- Both theorems, for the check to find.
+pub ruleset theorems = (reads_back, writes_back)

@@ -1,12 +1,13 @@
 //! Hexadecimal: two digits for a byte, the high half first.
 
-ghost use Rattle.std.specs.Prelude.{◌≡◌, ◌+◌, ◌*◌, ◌/◌, ◌<◌, ◌≤◌, ◌++◌, length, is_ok, if◌then◌else◌, Some, None, vec_len, vec_capacity, MatchBool};
+ghost use Rattle.std.specs.Prelude.{◌≡◌, ◌+◌, ◌*◌, ◌/◌, ◌<◌, ◌≤◌, ◌++◌, length, is_ok, if◌then◌else◌, Some, None, MatchOption, vec_len, vec_capacity};
 ghost use Rattle.lines.specs.Hex.{byte, digit, decoded, encoded, following, sign, ReadsBack, WritesBack};
 ghost use Rattle.lines.specs.declared.hex.HexError.{HexError};
 ghost use Rattle.lines.specs.Outcome.{Decodes};
-ghost use Rattle.std.specs.Option.{unwrap_or};
 
 use std::alloc::{AllocError, Global};
+use std::error::Error;
+use std::fmt;
 
 /// Why digits give no bytes.
 #[derive(Clone, Copy, PartialEq, Eq, Debug)]
@@ -16,6 +17,17 @@ pub enum HexError {
     /// There is no memory for the bytes.
     Memory,
 }
+
+impl fmt::Display for HexError {
+    fn fmt<W: fmt::Write>(&self, f: &mut fmt::Formatter<W>) -> fmt::Result {
+        match self {
+            HexError::NotHex => write!(f, "not hexadecimal"),
+            HexError::Memory => write!(f, "out of memory"),
+        }
+    }
+}
+
+impl Error for HexError {}
 
 impl From<AllocError> for HexError {
     ghost from_gives = { λ _ e. e ≡ HexError.Memory };
@@ -33,51 +45,38 @@ pub fn decode(heap: Global, digits: &[u8]) -> Result<Vec<u8>, HexError>
     ensures { Decodes digits.now result }
 {
     let mut bytes = Vec::with_capacity(heap, digits.len() / 2)?;
-    if decode_onto(digits, &mut bytes) {
-        return Ok(bytes);
+    if decode_onto(digits, &mut bytes).is_none() {
+        bytes.fill(0);
+        return Err(HexError::NotHex);
     }
-    bytes.fill(0);
-    Err(HexError::NotHex)
+    Ok(bytes)
 }
 
-// Adds the bytes of `digits` to `bytes`, which has room for them; false if they are none.
-fn decode_onto(digits: &[u8], bytes: &mut Vec<u8>) -> bool
+// Adds the bytes of `digits` to `bytes`, which has room for them.
+fn decode_onto(digits: &[u8], bytes: &mut Vec<u8>) -> Option<()>
     requires { vec_len bytes.old + length digits.now / 2 ≤ vec_capacity bytes.old }
-    ensures { MatchBool result (following bytes.old.items (decoded digits.now) ≡ Some bytes.new.items) (decoded digits.now ≡ None) }
+    ensures { MatchOption result (decoded digits.now ≡ None) (λ _. following bytes.old.items (decoded digits.now) ≡ Some bytes.new.items) }
 {
-    let mut rest = digits;
-    while let [high, low, tail @ ..] = rest {
-        let Some(byte) = byte_of(*high, *low) else {
-            return false;
-        };
-        bytes.push_reserved(byte);
-        rest = tail;
+    let (pairs, []) = digits.as_chunks::<2>() else {
+        return None;
+    };
+    for [high, low] in pairs {
+        bytes.push_reserved(byte_of(*high, *low)?);
     }
-    rest.is_empty()
+    Some(())
 }
 
 // The byte of two digits.
 fn byte_of(high: u8, low: u8) -> Option<u8>
     ensures { result ≡ byte (digit high) (digit low) }
 {
-    let high = digit_value(high)?;
-    let low = digit_value(low)?;
-    Some(high * 16 + low)
-}
-
-fn digit_value(code: u8) -> Option<u8>
-    ensures value { result ≡ digit code }
-    ensures bound { unwrap_or result 0 < 16 }
-{
-    match code {
-        b'0'..=b'9' => Some(code - b'0'),
-        b'a'..=b'f' => Some(code - b'a' + 10),
-        b'A'..=b'F' => Some(code - b'A' + 10),
-        _ => None,
-    }
+    let high = char::from(high).to_digit(16)?;
+    let low = char::from(low).to_digit(16)?;
+    Some((high * 16 + low) as u8)
 }
 
 /// Adds the small digits of `bytes` to `text`, or nothing if there is no memory for them.
+#[tactic(auto, using(crate::proofs::Digits::theorems))]
 pub fn encode_onto(bytes: &[u8], text: &mut Vec<u8>) -> Result<(), AllocError>
     ensures bytes { text.new.items ≡ (if is_ok result then text.old.items ++ encoded bytes.now else text.old.items) }
     ensures reads_back { ReadsBack }
@@ -99,9 +98,5 @@ fn digit_sign(value: u8) -> u8
     requires { value < 16 }
     ensures { result ≡ sign value }
 {
-    if value < 10 {
-        b'0' + value
-    } else {
-        b'a' + (value - 10)
-    }
+    char::from_digit(u32::from(value), 16).unwrap() as u8
 }

@@ -1,21 +1,16 @@
-use Rattle.std.proofs.Common.{refl, arith}
-use Rattle.std.proofs.lemmas.List.{take_rest, length-take, length-drop}
-use Rattle.ascon.proofs.AeadLaws.{absorbed_more, absorbed-last}
+use Rattle.std.proofs.Common.{◌≡◌, ◌/◌, length, rules, fold, ◌∙◌}
+use Rattle.std.specs.Simd.{first_chunks}
+use Rattle.std.proofs.lemmas.Iterator.{YieldsList-from_slice}
+use Rattle.std.proofs.lemmas.Iterator.Consumers.{fold_from_yields_List}
+use Rattle.ascon.specs.Blocks.{padded}
+use Rattle.ascon.proofs.BlockLaws.{fold_padded}
+use Rattle.ascon.proofs.AeadLaws.{data_step, absorbed-fold}
 use Rattle.ascon.proofs.state.State.absorb.Goals as goal
-
-pub loop-rest-init : goal.loop-rest-init
-loop-rest-init c = refl
-
-pub loop-rest-smaller : goal.loop-rest-smaller
-loop-rest-smaller c = simp (length-take, length-drop) (omega arith)
-
-pub loop-rest-preserved : goal.loop-rest-preserved
-loop-rest-preserved c =
-    let step = absorbed_more c.loop-rest.s c.loop-rest.rest.now (omega arith) in
-    let rest = take_rest c.loop-rest.rest.now 16 in
-    cc
 
 pub returns : goal.returns
 returns c =
-    let last = absorbed-last c.loop-rest.s c.loop-rest.rest.now (omega arith) in
+    let m = c.args.message.now in
+    let whole : c.fold-s.result ≡ fold data_step c.args.self (first_chunks 16 (length m / 16) m) = fold_from_yields_List _ data_step c.args.self c.fold-s.result c.fold-s.ensures.ran (YieldsList-from_slice _ (c.iter.ensures.rest ∙ c.as_chunks.ensures.front)) (λ s b t q h. search rules) in
+    let joined = fold_padded data_step 16 m c.args.self in
+    let all = absorbed-fold (padded 16 m) c.args.self in
     cc

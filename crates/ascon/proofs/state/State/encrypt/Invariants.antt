@@ -3,8 +3,8 @@ use Rattle.ascon.specs.Aead.{encrypted, after_text}
 use Rattle.ascon.proofs.AeadLaws.{Left}
 use Rattle.ascon.proofs.state.State.encrypt.Given as goal
 
-abbrev pub invariant-loop-text : goal.invariant-loop-text
-invariant-loop-text l = Left encrypted after_text l.initial.s l.initial.text l.s l.text l.at
+abbrev pub invariant-loop-block : goal.invariant-loop-block
+invariant-loop-block l = Left encrypted after_text l.initial.s l.initial.text l.s l.text l.at
 
-abbrev pub decreases-loop-text : goal.decreases-loop-text
-decreases-loop-text l = length l.initial.text - l.at
+abbrev pub decreases-loop-block : goal.decreases-loop-block
+decreases-loop-block l = length l.initial.text - l.at

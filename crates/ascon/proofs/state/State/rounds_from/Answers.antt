@@ -1,14 +1,19 @@
-use Rattle.std.proofs.Common.{◌≡◌, ℕ, ◌+◌, List, get_or, drop, sym, ap, ◌∙◌, arith}
-use Rattle.std.proofs.lemmas.List.{drop_more, drop_all}
+use Rattle.std.proofs.Common.{◌≡◌, ℕ, ◌-◌, drop, take, rules, ◌∙◌, fold, refl, ap, List, [], ◌∷◌}
+use Rattle.std.proofs.lemmas.Iterator.{YieldsList-from_slice}
+use Rattle.std.proofs.lemmas.Iterator.Consumers.{fold_from_yields_List}
+use Rattle.std.proofs.lemmas.List.{take_rest}
+use Rattle.ascon.specs.declared.state.State.{State}
 use Rattle.ascon.specs.Permutation.{rounds, round, constants}
 use Rattle.ascon.proofs.state.State.rounds_from.Goals as goal
 
-pub loop-i-preserved : goal.loop-i-preserved
+-- the rounds, one after another over the list
+rounds-fold : (cs : List ℕ) (s : State) → fold (λ (t : State) (c : ℕ). round c t) s cs ≡ rounds cs s
 unfolding rounds
-loop-i-preserved c =
-    let one : rounds (drop c.loop-i.i constants) c.loop-i.s ≡ rounds (drop (c.loop-i.i + 1) constants) (round (get_or constants c.loop-i.i 0) c.loop-i.s) = ap (λ (cs : List ℕ). rounds cs c.loop-i.s) (drop_more constants c.loop-i.i 0 (omega arith)) in
-    ap (rounds (drop (c.loop-i.i + 1) constants)) (c.round-s.ensures ∙ ap (λ n. round n c.loop-i.s) c.round_constant.ensures) ∙ (sym one ∙ c.loop-i.invariant)
+rounds-fold [] s = refl
+rounds-fold (c ∷ cs) s = rounds-fold cs (round c s)
 
 pub returns : goal.returns
-unfolding rounds
-returns c = ap (λ (cs : List ℕ). rounds cs c.loop-i.s) (sym (drop_all c.loop-i.i constants (omega arith))) ∙ c.loop-i.invariant
+returns c =
+    let cs : List ℕ = take (12 - c.args.first) (drop c.args.first constants) in
+    let e : c.fold.result ≡ fold (λ (t : State) (k : ℕ). round k t) c.args.self cs = fold_from_yields_List _ (λ (t : State) (k : ℕ). round k t) c.args.self c.fold.result c.fold.ensures.ran (YieldsList-from_slice cs c.iter.ensures.rest) (λ t k u q h. search rules) in
+    e ∙ (rounds-fold _ c.args.self ∙ ap (λ (xs : List ℕ). rounds xs c.args.self) (take_rest constants c.args.first))

@@ -13,7 +13,5 @@ pub returns : goal.returns
 unfolding bytes
 returns c =
     let n = length c.loop-out.out - c.loop-out.at in
-    let whole : n - 0 ≡ n = omega arith in
-    let copied : c.copy_from_slice-2.new.self ≡ take (n - 0) c.to_le_bytes-last.result = c.copy_from_slice-2.ensures.after in
-    let part : c.copy_from_slice-2.new.self ≡ take n (bytes c.loop-out.s.x0) = copied ∙ (ap (λ k. take k c.to_le_bytes-last.result) whole ∙ ap (λ (xs : List ℕ). take n xs) c.to_le_bytes-last.ensures) in
+    let part : c.copy_from_slice-2.new.self ≡ take n (bytes c.loop-out.s.x0) = c.copy_from_slice-2.ensures.after ∙ ap (λ (xs : List ℕ). take n xs) c.to_le_bytes-2.ensures in
     squeeze_last c.args.self c.loop-out.s c.loop-out.out c.loop-out.at c.loop-out.invariant c.copy_from_slice-2.new.self (omega arith) part ∙ ap (λ n. output n c.args.self) c.loop-out.auto.out

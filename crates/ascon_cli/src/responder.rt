@@ -1,0 +1,101 @@
+//! Lines out of an input that comes in pieces.
+
+ghost use Rattle.std.specs.Prelude.{◌≡◌, ◌<◌, ◌≤◌, [], ◌∷◌, ◌++◌, length, take, IfOk};
+ghost use Rattle.ascon_cli.specs.Errors.{Grew};
+ghost use Rattle.ascon_cli.specs.Format.{reply};
+ghost use Rattle.ascon_cli.specs.Views.{line_of, out_of};
+ghost use Rattle.ascon_cli.specs.Stream.{last_reply, pending, replies, CutsDoNotMatter, LineByLine};
+
+use crate::fault::Fault;
+use crate::reply::perform;
+use crate::request::read_request;
+use crate::secret::Secret;
+use crate::split::position;
+use std::alloc::{AllocError, Global};
+
+/// The line that is being read, and the answers that have not been written.
+#[derive(Drop)]
+pub struct Responder {
+    line: Secret,
+    pub out: Secret,
+}
+
+impl Responder {
+    /// Nothing read, and nothing to write.
+    pub fn new(heap: Global) -> Responder
+        ensures line { line_of result ≡ [] }
+        ensures out { out_of result ≡ [] }
+    {
+        Responder {
+            line: Secret::new(heap),
+            out: Secret::new(heap),
+        }
+    }
+
+    /// Takes `input` up to the end of its first line, whose start may have come before, and answers that line.
+    ///
+    /// Says how many bytes it took. Without a newline all are taken, and the line waits for more.
+    #[tactic(auto, using(crate::proofs::Flow::theorems))]
+    pub fn take_line(&mut self, input: &[u8]) -> Result<usize, AllocError>
+        ensures bound { IfOk result (λ n. (n ≤ length input.now) × (0 < length input.now → 0 < n)) }
+        ensures text { IfOk result (λ n. out_of self.new ≡ out_of self.old ++ replies (line_of self.old) (take n input.now)) }
+        ensures rest { IfOk result (λ n. line_of self.new ≡ pending (line_of self.old) (take n input.now)) }
+        ensures cuts { CutsDoNotMatter }
+        ensures lines { LineByLine }
+    {
+        let Some(end) = position(input, b'\n') else {
+            self.line.extend(input)?;
+            return Ok(input.len());
+        };
+        self.line.extend(&input[..end])?;
+        self.answer_line()?;
+        Ok(end + 1)
+    }
+
+    /// Answers a last line that no newline ended, and has none then.
+    pub fn take_last(&mut self) -> Result<(), AllocError>
+        ensures text { Grew result self.old.out.bytes self.new.out.bytes (last_reply (line_of self.old)) }
+        ensures rest { line_of self.new ≡ [] }
+    {
+        if self.line.bytes.is_empty() {
+            return Ok(());
+        }
+        self.answer_line()
+    }
+
+    // Answers the line, and begins another.
+    // For want of memory `out` keeps its whole answers, and no part of another.
+    fn answer_line(&mut self) -> Result<(), AllocError>
+        ensures text { Grew result self.old.out.bytes self.new.out.bytes (reply (line_of self.old) ++ 10 ∷ []) }
+        ensures rest { line_of self.new ≡ [] }
+    {
+        let whole = self.out.bytes.len();
+        let result = self.answer_and_end();
+        self.line.clear();
+        if result.is_err() {
+            self.out.truncate(whole);
+        }
+        result
+    }
+
+    fn answer_and_end(&mut self) -> Result<(), AllocError>
+        ensures { Grew result self.old.out.bytes self.new.out.bytes (reply (line_of self.old) ++ 10 ∷ []) }
+    {
+        self.answer()?;
+        self.out.extend(b"\n")
+    }
+
+    // Adds the answer to the line, without a newline, to `out`.
+    // The program goes on after a line that cannot be read, and not for want of memory.
+    #[tactic(auto, unfolding(crate::specs::Format::reply))]
+    fn answer(&mut self) -> Result<(), AllocError>
+        ensures { Grew result self.old.out.bytes self.new.out.bytes (reply (line_of self.old)) }
+    {
+        let heap = self.out.heap();
+        match read_request(heap, self.line.bytes.as_slice()) {
+            Ok(request) => perform(request, &mut self.out),
+            Err(Fault::Line(error)) => self.out.extend(error.to_string(heap)?.as_bytes()),
+            Err(Fault::Memory) => Err(AllocError),
+        }
+    }
+}
