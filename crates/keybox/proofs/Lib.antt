@@ -1,2 +1,1 @@
-pub mod BlobLaws
-pub mod PlacingLaws
+pub mod BufferLaws

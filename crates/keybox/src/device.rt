@@ -1,16 +1,17 @@
 //! The box, and the commands that need no blob.
 
-ghost use Rattle.std.specs.Prelude.{◌≡◌, ℕ, false, List, []};
+ghost use Rattle.std.specs.Prelude.{◌≡◌, ℕ, List, [], OnErr};
 ghost use Rattle.keys.specs.Algebra.{Algebra};
 ghost use Rattle.keys.specs.Machine.{does, fresh, house_slot, put_at, Full as full_place, Make as to_make, Load as to_load, Show as to_show, Forget as to_forget};
 ghost use Rattle.keys.specs.Padded.{padded};
-ghost use Rattle.keys.specs.Replies.{done_answer, key_answer, place_answer, Wiped};
+ghost use Rattle.keys.specs.Replies.{done_answer, place_answer, value_answer};
 ghost use Rattle.keys.specs.Tables.{state_of};
 
 use crate::cipher::Cipher;
 use keys::key::{Key, wipe};
 use keys::refusal::Refusal;
 use keys::role::Role;
+use keys::slot::Slot;
 use keys::table::Table;
 use keys::tag::Tag;
 
@@ -25,21 +26,6 @@ pub struct Device {
 
 /// The place of the house key.
 const HOUSE: u8 = 63;
-
-// Writes the house key.
-fn house_into<C: Cipher>(cipher: &C, out: &mut [u8; 16])
-    ensures { out.new ≡ (C.alg cipher.now).house }
-{
-    cipher.house(out);
-}
-
-// Writes the next key of box `number`.
-fn draw_into<C: Cipher>(cipher: &mut C, number: u32, drawn: u64, out: &mut [u8; 16])
-    ensures same { C.alg cipher.new ≡ C.alg cipher.old }
-    ensures bytes { out.new ≡ (C.alg cipher.old).draw number drawn }
-{
-    cipher.draw(number, drawn, out);
-}
 
 impl Device {
     /// A new box.
@@ -66,15 +52,15 @@ impl Device {
     fn put_house<C: Cipher>(&mut self, cipher: &C)
         ensures { state_of self.new.table ≡ put_at 63 (full_place (house_slot (C.alg cipher.now))) (state_of self.old.table) }
     {
-        house_into(cipher, &mut self.spare.bytes);
-        self.table.put(
-            HOUSE,
-            Tag {
+        cipher.house(&mut self.spare.bytes);
+        let house = Slot {
+            key: &self.spare.bytes,
+            tag: Tag {
                 role: Role::Wrapper,
                 stays: true,
             },
-            &self.spare.bytes,
-        );
+        };
+        self.table.put(HOUSE, house);
         self.spare.wipe();
     }
 
@@ -83,10 +69,14 @@ impl Device {
         ensures does { does (C.alg cipher.old) (to_make tag) (state_of self.old.table) ≡ record { box = state_of self.new.table; answer = place_answer result } }
         ensures same { C.alg cipher.new ≡ C.alg cipher.old }
     {
-        let at = self.table.first_empty()?;
-        let drawn = self.table.next_draw()?;
-        draw_into(cipher, self.table.number(), drawn, &mut self.spare.bytes);
-        self.table.put(at, tag, &self.spare.bytes);
+        let at = self.table.places.first_empty()?;
+        let drawn = self.table.counts.next_draw()?;
+        cipher.draw(self.table.counts.number(), drawn, &mut self.spare.bytes);
+        let slot = Slot {
+            key: &self.spare.bytes,
+            tag,
+        };
+        self.table.put(at, slot);
         self.spare.wipe();
         Ok(at)
     }
@@ -95,18 +85,21 @@ impl Device {
     pub fn load(&mut self, role: Role, key: &[u8; 16]) -> Result<u8, Refusal>
         ensures { (a : Algebra (List ℕ)) → does a (to_load role key.now) (state_of self.old.table) ≡ record { box = state_of self.new.table; answer = place_answer result } }
     {
-        self.table.place_key(Tag { role, stays: false }, key)
+        self.table.place(Slot {
+            key,
+            tag: Tag { role, stays: false },
+        })
     }
 
     /// Gives a key away, unless it stays.
     pub fn show(&self, at: u8, out: &mut [u8; 16]) -> Result<(), Refusal>
-        ensures does { (a : Algebra (List ℕ)) → does a (to_show at) (state_of self.now.table) ≡ record { box = state_of self.now.table; answer = key_answer result out.new } }
-        ensures wiped { Wiped result out.new }
+        ensures does { (a : Algebra (List ℕ)) → does a (to_show at) (state_of self.now.table) ≡ record { box = state_of self.now.table; answer = value_answer result out.new } }
+        ensures wiped { OnErr result (out.new ≡ padded 16 []) }
     {
         wipe(out);
-        let tag = self.table.find(at)?;
+        let Slot { key, tag } = self.table.places.find(at)?;
         tag.may_show()?;
-        out.copy_from_slice(self.table.key(at));
+        out.copy_from_slice(key);
         Ok(())
     }
 
@@ -114,7 +107,7 @@ impl Device {
     pub fn forget(&mut self, at: u8) -> Result<(), Refusal>
         ensures { (a : Algebra (List ℕ)) → does a (to_forget at) (state_of self.old.table) ≡ record { box = state_of self.new.table; answer = done_answer result } }
     {
-        let _tag = self.table.find(at)?;
+        self.table.places.find(at)?;
         self.table.empty(at);
         Ok(())
     }

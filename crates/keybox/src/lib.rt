@@ -2,6 +2,8 @@
 #![tactic(auto)]
 
 pub mod blobs;
+pub mod buffer;
 pub mod cipher;
 pub mod device;
 pub mod placing;
+pub mod text;

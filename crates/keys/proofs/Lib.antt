@@ -1,3 +1,3 @@
 pub mod PaddedLaws
-pub mod Places
+pub mod PlaceLaws
 pub mod RoleLaws

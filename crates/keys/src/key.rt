@@ -2,6 +2,7 @@ ghost use Rattle.std.specs.Prelude.{◌≡◌, [], length};
 ghost use Rattle.keys.specs.Padded.{padded};
 
 /// Overwrites lent memory with noughts.
+#[tactic(auto, using(crate::proofs::PaddedLaws::padded_none))]
 pub fn wipe(bytes: &mut [u8])
     ensures { bytes.new ≡ padded (length bytes.old) [] }
 {
@@ -15,12 +16,15 @@ pub struct Key {
 
 impl Key {
     /// A key of noughts, to be written over.
+    #[tactic(auto, unfolding(crate::specs::Padded::padded))]
     pub fn blank() -> Key
         ensures { result.bytes ≡ padded 16 [] }
     {
         Key { bytes: [0; 16] }
     }
 
+    /// Overwrites the key with noughts.
+    // No twin of the function `wipe`, which serves lent memory too: it is that, said of a key.
     pub fn wipe(&mut self)
         ensures { self.new.bytes ≡ padded 16 [] }
     {

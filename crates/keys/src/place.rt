@@ -1,40 +1,41 @@
 ghost use Rattle.std.specs.Prelude.{◌≡◌};
 ghost use Rattle.keys.specs.Clear.{Clear};
-ghost use Rattle.keys.specs.declared.held.Held.{Held};
 
-use crate::held::Held;
 use crate::key::Key;
+use crate::slot::Slot;
 use crate::tag::Tag;
 
-/// A place for one key. While it is empty, the key's bytes are noughts.
+/// A place for one key, with the tag of the key in it. While it is empty, the key's bytes are
+/// noughts.
 pub struct Place {
-    pub(crate) held: Held,
+    pub(crate) tag: Option<Tag>,
     pub(crate) key: Key,
-    ghost clear: { Clear held key.bytes },
+    ghost clear: { Clear tag key.bytes },
 }
 
 impl Place {
     // Copies a key into the place.
-    pub(crate) fn fill(&mut self, tag: Tag, key: &[u8; 16])
-        ensures held { self.new.held ≡ Held.Full tag }
-        ensures bytes { self.new.key.bytes ≡ key.now }
+    pub(crate) fn fill(&mut self, slot: Slot<'_>)
+        ensures tag { self.new.tag ≡ Some slot.entry.tag }
+        ensures bytes { self.new.key.bytes ≡ slot.entry.key.now }
     {
-        self.held = Held::Full(tag);
+        let Slot { key, tag } = slot;
+        self.tag = Some(tag);
         self.key.bytes.copy_from_slice(key);
     }
 
     // Empties the place, and wipes what it held.
     pub(crate) fn clear(&mut self)
-        ensures { self.new.held ≡ Held.Empty }
+        ensures { self.new.tag ≡ None }
     {
         self.key.wipe();
-        self.held = Held::Empty;
+        self.tag = None;
     }
 }
 
 impl Drop for Place {
     fn drop(mut self) {
         self.clear();
-        let Place { held: _, key: _ } = self;
+        let Place { tag: _, key: _ } = self;
     }
 }

@@ -1,8 +1,12 @@
 ghost use Rattle.std.specs.Prelude.{◌≡◌};
 ghost use Rattle.keys.specs.Machine.{refusal_number};
+ghost use Rattle.keys.specs.declared.refusal.Refusal.TheVariants.{NotOpened as not_opened};
+
+use std::error::Error;
+use std::fmt;
 
 /// Why a command is refused.
-#[derive(Clone, Copy)]
+#[derive(Clone, Copy, Debug, PartialEq, Eq)]
 pub enum Refusal {
     /// The bytes are no command.
     Malformed,
@@ -21,12 +25,16 @@ pub enum Refusal {
     UsedUp,
 }
 
-impl Refusal {
-    /// The first byte of the answer. No other code names these numbers.
-    pub fn number(self) -> u8
-        ensures { result ≡ refusal_number self }
-    {
-        match self {
+/// A blob that doesn't open under this key.
+#[derive(Clone, Copy, Debug, PartialEq, Eq)]
+pub struct NotOpened;
+
+/// The first byte of the answer. No other code names these numbers.
+impl From<Refusal> for u8 {
+    ghost from_gives = { λ refusal number. number ≡ refusal_number refusal };
+
+    fn from(refusal: Refusal) -> u8 {
+        match refusal {
             Refusal::Malformed => 1,
             Refusal::NoKey => 2,
             Refusal::NoRoom => 3,
@@ -37,3 +45,35 @@ impl Refusal {
         }
     }
 }
+
+impl From<NotOpened> for Refusal {
+    ghost from_gives = { λ _ refusal. refusal ≡ not_opened };
+
+    fn from(_blob: NotOpened) -> Refusal {
+        Refusal::NotOpened
+    }
+}
+
+impl fmt::Display for Refusal {
+    fn fmt<W: fmt::Write>(&self, f: &mut fmt::Formatter<W>) -> fmt::Result {
+        f.write_str(match self {
+            Refusal::Malformed => "the bytes are no command",
+            Refusal::NoKey => "no key lies there",
+            Refusal::NoRoom => "no place is empty",
+            Refusal::WrongRole => "the key has another role",
+            Refusal::Stays => "a key stays",
+            Refusal::NotOpened => "the blob doesn't open",
+            Refusal::UsedUp => "all stamps or keys are used up",
+        })
+    }
+}
+
+impl fmt::Display for NotOpened {
+    fn fmt<W: fmt::Write>(&self, f: &mut fmt::Formatter<W>) -> fmt::Result {
+        write!(f, "{}", Refusal::NotOpened)
+    }
+}
+
+impl Error for Refusal {}
+
+impl Error for NotOpened {}

@@ -7,7 +7,7 @@ use crate::refusal::Refusal;
 use crate::role::Role;
 
 /// What a box knows of a key besides its bytes. A key that stays never leaves the boxes.
-#[derive(Clone, Copy)]
+#[derive(Clone, Copy, Debug, PartialEq, Eq)]
 pub struct Tag {
     pub role: Role,
     pub stays: bool,
@@ -18,7 +18,7 @@ impl Tag {
     pub fn in_role(self, role: Role) -> Result<(), Refusal>
         ensures { Checks true (same_role role self.role) Refusal.WrongRole result }
     {
-        if role.number() != self.role.number() {
+        if role != self.role {
             return Err(Refusal::WrongRole);
         }
         Ok(())

@@ -1,2 +1,3 @@
-pub mod Padding
+pub mod Marking
 pub mod Opening
+pub mod Reading

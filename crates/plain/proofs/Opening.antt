@@ -1,13 +1,13 @@
 -- What was sealed or wrapped opens.
-use Rattle.std.proofs.Common.{◌≡◌, ℕ, ◌+◌, ◌-◌, Bool, true, false, cond, eqb, leb, List, ◌++◌, length, take, drop, Some, refl, ap, ◌∙◌, arith}
+use Rattle.std.proofs.Common.{◌≡◌, ℕ, ◌+◌, ◌-◌, Bool, true, false, cond, List, ◌++◌, length, take, drop, Some, refl, ap, ◌∙◌, arith}
 use Rattle.std.specs.Str.{bytes_eq}
 use Rattle.std.proofs.lemmas.Slice.Eq.{bytes_eq-Decides}
 use Rattle.std.proofs.lemmas.List.{length-append, take_at, drop_at}
-use Rattle.std.proofs.lemmas.Bool.{and_from, cond-true, eq-eqb, le-leb}
+use Rattle.std.proofs.lemmas.Bool.Decides.{nat_tests}
 use Rattle.keys.specs.declared.role.Role.{Role}
 use Rattle.keys.specs.declared.role.Role.TheVariants.{Wrapper, Sealer, Marker, Base}
 use Rattle.keys.specs.Algebra.{role_number}
-use Rattle.plain.specs.Plain.{four_bytes, eight_bytes, stamp_bytes, tag_bytes, sealed, wrapped, read_tag, slot_of, ends_in}
+use Rattle.plain.specs.Plain.{four_bytes, eight_bytes, stamp_bytes, tag_bytes, sealed, wrapped, read_tag, ends_in}
 use Rattle.plain.specs.Laws.{Unseals, Unwraps}
 
 -- a blob with key k at its end
@@ -22,9 +22,9 @@ unfolding four_bytes eight_bytes
 unseals k s v lk lv =
     let b = sealed k s v in
     let size : length b ≡ length v + 28 = simp length-append (omega arith) in
-    let fits = and_from (leb 28 (length b)) (leb (length b) 1052) (le-leb _ _ (omega arith)) (le-leb _ _ (omega arith)) in
-    let opens = and_from _ (ends_in k b) fits (ends_in_lem (stamp_bytes s ++ v) k lk) in
-    cond-true _ _ _ opens ∙ ap Some (take_at v k (length b - 28) (omega arith))
+    let ends = ends_in_lem (stamp_bytes s ++ v) k lk in
+    let text : take (length b - 28) (drop 12 b) ≡ v = take_at v k (length b - 28) (omega arith) in
+    grind (arith, nat_tests)
 
 -- the bytes of a tag are read as that tag
 reads_tag : (r : Role) (s : Bool) → read_tag (role_number r) (cond s 1 0) ≡ Some (record { role = r; stays = s })
@@ -43,8 +43,7 @@ unfolding four_bytes eight_bytes
 unwraps u s t k lu lk =
     let b = wrapped u s t k in
     let size : length b ≡ 46 = simp length-append (omega arith) in
-    let opens = and_from (eqb (length b) 46) (ends_in u b) (eq-eqb _ _ size) (ends_in_lem (stamp_bytes s ++ tag_bytes t ++ k) u lu) in
+    let ends = ends_in_lem (stamp_bytes s ++ tag_bytes t ++ k) u lu in
     let key : take 16 (drop 14 b) ≡ k = take_at k u 16 lk in
-    cond-true _ _ _ opens
-    ∙ ap (λ x. slot_of x (read_tag (role_number t.role) (cond t.stays 1 0))) key
-    ∙ ap (slot_of k) (reads_tag t.role t.stays)
+    let tag = reads_tag t.role t.stays in
+    grind (arith, nat_tests)

@@ -1,91 +1,64 @@
-//! The parts that blobs and keys of the plain cipher are written and read by.
+//! The parts that blobs of the plain cipher are written and read by.
 
-ghost use Rattle.std.specs.Prelude.{◌≡◌, ◌+◌, ◌≤◌, [], length, take};
-ghost use Rattle.keys.specs.Algebra.{role_number, role_of};
-ghost use Rattle.keys.specs.Padded.{padded};
-ghost use Rattle.keybox.specs.Lent.{stamp_for, tag_for};
-ghost use Rattle.plain.specs.Plain.{ends_in, read_tag, stamp_bytes, tag_bytes, unsealed};
-ghost use Rattle.plain.specs.Parts.{Appends, lent_text, tag_code};
+ghost use Rattle.std.specs.Prelude.{◌≡◌, length};
+ghost use Rattle.keys.specs.Tables.{stamp_of};
+ghost use Rattle.plain.specs.Parts.{lent_slot, lent_text};
+ghost use Rattle.plain.specs.Plain.{read_tag, stamp_bytes, unsealed, unwrapped};
 
-use keys::key::wipe;
+use keybox::buffer::Buffer;
+use keybox::text::Text;
+use keys::role::Role;
+use keys::slot::Slot;
+use keys::stamp::Stamp;
+use keys::tag::Tag;
 
-// Writes `part` behind the first `at` bytes; how many there are then.
-pub(crate) fn append(out: &mut [u8], at: usize, part: &[u8]) -> usize
-    requires { at + length part.now ≤ length out.old }
-    ensures size { result ≡ at + length part.now }
-    ensures bytes { Appends at part.now out.old out.new }
+// The stamp that a blob begins with, in place of what the buffer held.
+#[tactic(auto, unfolding(crate::specs::Plain::four_bytes, crate::specs::Plain::eight_bytes))]
+pub(crate) fn put_stamp(out: &mut Buffer, stamp: Stamp)
+    ensures bytes { out.new ≡ stamp_bytes (stamp_of stamp) }
+    ensures size { length out.new ≡ 12 }
 {
-    let end = at + part.len();
-    out[at..end].copy_from_slice(part);
-    end
+    let (number, count) = stamp.spend();
+    out.clear();
+    out.extend(&number.to_le_bytes());
+    out.extend(&count.to_le_bytes());
 }
 
-// A stamp, and noughts behind it.
-pub(crate) fn begin(out: &mut [u8], number: u32, count: u64) -> usize
-    requires { 12 ≤ length out.old }
-    ensures size { result ≡ 12 }
-    ensures bytes { out.new ≡ padded (length out.old) (stamp_bytes (stamp_for number count)) }
+// The tag of two bytes, if they are one.
+fn read_tag(role: u8, stays: u8) -> Option<Tag>
+    ensures { result ≡ read_tag role stays }
 {
-    wipe(out);
-    let at = append(out, 0, &number.to_le_bytes());
-    append(out, at, &count.to_le_bytes())
-}
-
-// The number of the role that any number stands for.
-pub(crate) fn role_number(role: u8) -> u8
-    ensures { result ≡ role_number (role_of role) }
-{
-    match role {
-        1..=3 => role,
-        _ => 4,
+    match (Role::try_from(role), stays) {
+        (Ok(role), 0) => Some(Tag { role, stays: false }),
+        (Ok(role), 1) => Some(Tag { role, stays: true }),
+        _ => None,
     }
-}
-
-// The two bytes of a tag.
-pub(crate) fn tag_bytes(role: u8, stays: bool) -> [u8; 2]
-    ensures { result ≡ tag_bytes (tag_for role stays) }
-{
-    [role_number(role), u8::from(stays)]
-}
-
-// The code of two bytes that may be a tag.
-pub(crate) fn tag_code(role: u8, stays: u8) -> u8
-    ensures { result ≡ tag_code (read_tag role stays) }
-{
-    match (role, stays) {
-        (1..=4, 0) => role,
-        (1..=4, 1) => role + 4,
-        _ => 0,
-    }
-}
-
-// Whether a blob's last sixteen bytes are `key`.
-pub(crate) fn ends_in(key: &[u8; 16], blob: &[u8]) -> bool
-    ensures { result ≡ ends_in key.now blob.now }
-{
-    blob.ends_with(key)
 }
 
 // The text of a sealed blob, if it opens under `key`.
-pub(crate) fn sealed_text<'a>(key: &[u8; 16], blob: &'a [u8]) -> Option<&'a [u8]>
+#[tactic(auto, using(crate::proofs::Reading::read_sealed))]
+pub(crate) fn sealed_text<'a>(key: &[u8; 16], blob: &'a [u8]) -> Option<Text<'a>>
     ensures { lent_text result ≡ unsealed key.now blob.now }
 {
-    let n = blob.len();
-    if n < 28 {
+    let (_stamp, rest) = blob.split_first_chunk::<12>()?;
+    let (text, end) = rest.split_last_chunk::<16>()?;
+    if key != end {
         return None;
     }
-    if n > 1052 {
-        return None;
-    }
-    if !ends_in(key, blob) {
-        return None;
-    }
-    Some(&blob[12..n - 16])
+    Text::try_from(text).ok()
 }
 
-// The first eight bytes, or all if there are fewer.
-pub(crate) fn first_eight(text: &[u8]) -> &[u8]
-    ensures { result.now ≡ take 8 text.now }
+// The key of a wrapped blob with its tag, if the blob opens under `under`.
+#[tactic(auto, using(crate::proofs::Reading::read_wrapped))]
+pub(crate) fn wrapped_slot<'a>(under: &[u8; 16], blob: &'a [u8]) -> Option<Slot<'a>>
+    ensures { lent_slot result ≡ unwrapped under.now blob.now }
 {
-    if text.len() < 8 { text } else { &text[0..8] }
+    let (_stamp, rest) = blob.split_first_chunk::<12>()?;
+    let (&[role, stays], rest) = rest.split_first_chunk::<2>()?;
+    let (key, end) = rest.split_first_chunk::<16>()?;
+    if under.as_slice() != end {
+        return None;
+    }
+    let tag = read_tag(role, stays)?;
+    Some(Slot { key, tag })
 }

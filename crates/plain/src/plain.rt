@@ -2,11 +2,16 @@
 
 ghost use Rattle.plain.specs.Plain.{plain as plain_algebra};
 
-use crate::parts::{
-    append, begin, ends_in, first_eight, role_number, sealed_text, tag_bytes, tag_code,
-};
+use crate::parts::{put_stamp, sealed_text, wrapped_slot};
+use keybox::buffer::Buffer;
 use keybox::cipher::Cipher;
+use keybox::text::Text;
 use keys::key::wipe;
+use keys::refusal::NotOpened;
+use keys::role::Role;
+use keys::slot::Slot;
+use keys::stamp::Stamp;
+use keys::tag::Tag;
 
 // What the house key is made of.
 const HOUSE: u8 = b'H';
@@ -15,84 +20,66 @@ const HOUSE: u8 = b'H';
 const DRAWN: u8 = b'D';
 
 /// A cipher that hides nothing: a blob's key stands at its end.
-#[derive(Clone, Copy)]
-pub struct Plain {}
+#[derive(Clone, Copy, Debug)]
+pub struct Plain;
 
 impl Cipher for Plain {
     ghost alg = { λ _. plain_algebra };
 
-    fn seal(
-        &self,
-        key: &[u8; 16],
-        number: u32,
-        count: u64,
-        text: &[u8],
-        out: &mut [u8; 1052],
-    ) -> usize {
-        let at = begin(out, number, count);
-        let at = append(out, at, text);
-        append(out, at, key)
+    fn seal(&self, key: &[u8; 16], stamp: Stamp, text: Text<'_>, out: &mut Buffer) {
+        put_stamp(out, stamp);
+        out.extend(text.as_slice());
+        out.extend(key);
     }
 
-    fn unseal(&self, key: &[u8; 16], blob: &[u8], out: &mut [u8; 1052]) -> usize {
+    fn unseal(&self, key: &[u8; 16], blob: &[u8], out: &mut Buffer) -> Result<(), NotOpened> {
+        out.clear();
+        let text = sealed_text(key, blob).ok_or(NotOpened)?;
+        out.extend(text.as_slice());
+        Ok(())
+    }
+
+    fn wrap(&self, under: &[u8; 16], stamp: Stamp, slot: Slot<'_>, out: &mut Buffer) {
+        let Slot { key, tag } = slot;
+        put_stamp(out, stamp);
+        out.extend(&[u8::from(tag.role), u8::from(tag.stays)]);
+        out.extend(key);
+        out.extend(under);
+    }
+
+    fn unwrap(&self, under: &[u8; 16], blob: &[u8], out: &mut [u8; 16]) -> Result<Tag, NotOpened> {
         wipe(out);
-        match sealed_text(key, blob) {
-            Some(text) => append(out, 0, text) + 1,
-            None => 0,
-        }
+        let Slot { key, tag } = wrapped_slot(under, blob).ok_or(NotOpened)?;
+        out.copy_from_slice(key);
+        Ok(tag)
     }
 
-    fn wrap(
-        &self,
-        under: &[u8; 16],
-        number: u32,
-        count: u64,
-        role: u8,
-        stays: bool,
-        key: &[u8; 16],
-        out: &mut [u8; 1052],
-    ) -> usize {
-        let at = begin(out, number, count);
-        let at = append(out, at, &tag_bytes(role, stays));
-        let at = append(out, at, key);
-        append(out, at, under)
+    #[tactic(auto, using(crate::proofs::Marking::marks))]
+    fn mark(&self, key: &[u8; 16], text: &[u8]) -> [u8; 16] {
+        let start = &text[..text.len().min(8)];
+        let mut mark = [0; 16];
+        let (front, rest) = mark.split_at_mut(8);
+        front.copy_from_slice(&key[..8]);
+        rest[..start.len()].copy_from_slice(start);
+        mark
     }
 
-    fn unwrap(&self, under: &[u8; 16], blob: &[u8], out: &mut [u8; 16]) -> u8 {
-        wipe(out);
-        if blob.len() != 46 {
-            return 0;
-        }
-        if !ends_in(under, blob) {
-            return 0;
-        }
-        let code = tag_code(blob[12], blob[13]);
-        if code != 0 {
-            append(out, 0, &blob[14..30]);
-        }
-        code
-    }
-
-    fn mark(&self, key: &[u8; 16], text: &[u8], out: &mut [u8; 16]) {
-        wipe(out);
-        let at = append(out, 0, &key[0..8]);
-        append(out, at, first_eight(text));
-    }
-
-    fn derive(&self, key: &[u8; 16], label: u8, role: u8, out: &mut [u8; 16]) {
-        wipe(out);
-        let at = append(out, 0, &[role_number(role), label]);
-        append(out, at, &key[0..14]);
+    fn derive(&self, key: &[u8; 16], label: u8, role: Role, out: &mut [u8; 16]) {
+        let (front, rest) = out.split_at_mut(2);
+        front.copy_from_slice(&[u8::from(role), label]);
+        rest.copy_from_slice(&key[..14]);
     }
 
     fn house(&self, out: &mut [u8; 16]) {
         out.fill(HOUSE);
     }
 
+    #[tactic(auto, unfolding(crate::specs::Plain::four_bytes, crate::specs::Plain::eight_bytes))]
     fn draw(&mut self, number: u32, drawn: u64, out: &mut [u8; 16]) {
-        wipe(out);
-        let at = append(out, 0, &drawn.to_le_bytes());
-        let at = append(out, at, &number.to_le_bytes());
-        append(out, at, &[DRAWN; 4]);
+        let (front, rest) = out.split_at_mut(8);
+        let (middle, end) = rest.split_at_mut(4);
+        front.copy_from_slice(&drawn.to_le_bytes());
+        middle.copy_from_slice(&number.to_le_bytes());
+        end.fill(DRAWN);
     }
 }

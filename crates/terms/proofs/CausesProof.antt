@@ -129,7 +129,7 @@ module _ {V : Type 0} (b : Box V) (sized : length b.places ≡ capacity) where
 
   -- what opens under the key in a place isn't shut under it
   not_shut : {A : Type 0} (f : V → Option A) (i : ℕ) (s t : Slot V) (x : A) → LiesAt i s → LiesAt i t → f s.key ≡ Some x → f t.key ≡ None → ⊥
-  not_shut f i s t x h k p q = let e = full_same b.places i s t h k in let z : ◌≡◌ {A = ℕ} 0 1 = cc in omega arith
+  not_shut f i s t x h k p q = let e = full_same b.places i s t h k in cc
 
   unwraps : (a : Algebra V) (u : ℕ) (v : V) (w : Slot V) → LiesAt u w → (o : Option (Slot V)) → a.unwrap w.key v ≡ o →
       Checks NotOpened (NotUnwrapped a b u v) (record { refusal = Stays; holds = SaysStays a b u v } ∷ record { refusal = NoRoom; holds = NoneEmpty b } ∷ [])

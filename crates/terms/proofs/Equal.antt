@@ -1,5 +1,5 @@
 -- Terms that are found to be one are, and only what was made under a key opens under it.
-use Rattle.std.proofs.Common.{◌≡◌, ℕ, Bool, true, false, cond, Some, None, Option, sym, refl, ap, ◌∙◌, arith}
+use Rattle.std.proofs.Common.{◌≡◌, Bool, true, false, cond, Some, None, Option, sym, refl, ap, ◌∙◌}
 use native.Mathlib.Decide.{ℕ_discrete}
 use Rattle.std.proofs.lemmas.Bool.{eqb-true, false≢true}
 use Rattle.keys.specs.declared.role.Role.{Role}
@@ -20,7 +20,7 @@ role_is r q e = sym (role_number_lem r) ∙ ap role_of (eqb-true _ _ e) ∙ role
 
 -- nothing isn't something
 pub shut : {A P : Type 0} {x : A} → ◌≡◌ {A = Option A} None (Some x) → P
-shut e = let z : ◌≡◌ {A = ℕ} 0 1 = cc in absurd (omega arith)
+shut e = cc
 
 -- what unwraps to a slot is that slot, wrapped under this key
 pub unwrapped_is : (w v : Term) (s : Slot Term) → unwrapped w v ≡ Some s → (p : Stamp) × (v ≡ Wrapped w p s.tag s.key)

@@ -10,7 +10,8 @@ use Rattle.keys.specs.Machine.{Full, Box, Command, After, answer_value, capacity
 use Rattle.terms.specs.Term.{Term, terms}
 use Rattle.terms.specs.Security.{stamps_of}
 use Rattle.terms.specs.World.{World, Distinct, Reachable, begins, then, added, box_at, slots_of, slots_in, start, after, generated_by, issued_by}
-use Rattle.terms.proofs.Lists.{map_set_same, mem-get_or, mem-set, slots_set, slots_empties, slots_in_lem}
+use Rattle.std.proofs.Math.Seq.{map-set_same}
+use Rattle.terms.proofs.Lists.{mem-get_or, mem-set, slots_set, slots_empties, slots_in_lem}
 use Rattle.terms.proofs.Ledger.{key_numbering, stamp_numbering, numbers_of, Ledger, ledger_none, ledger_step}
 use Rattle.terms.proofs.Good.{StaysAs, Public, Held, keys_of, public_added, held_added, knows_public}
 use Rattle.terms.proofs.Commands.{OnSome, AllowedTo, full_held, obeys}
@@ -69,7 +70,7 @@ after_invariant ns w h i lt c a r =
     let m = issued_by c a.answer in
     let ds = w.generated in
     let ms = w.issued in
-    let numbered : numbers_of (set w.boxes i a.box) ≡ ns = map_set_same (λ (b : Box Term). b.number) w.boxes i a.box _ r.number ∙ h.numbered in
+    let numbered : numbers_of (set w.boxes i a.box) ≡ ns = map-set_same (λ (b : Box Term). b.number) w.boxes i a.box _ r.number ∙ h.numbered in
     let d : Distinct (numbers_of (set w.boxes i a.box)) = rw numbered h.distinct in
     record {
       distinct = h.distinct;

@@ -37,12 +37,6 @@ mem-set (z ∷ zs) zero y (there m) = inr (there m)
 mem-set (z ∷ zs) (suc i) y (here e) = inr (here e)
 mem-set (z ∷ zs) (suc i) y (there m) = ⊎_elim (λ e. inl e) (λ n. inr (there n)) (mem-set zs i y m)
 
--- an element set to one with the same image
-pub map_set_same : {A B : Type 0} (f : A → B) (xs : List A) (i : ℕ) (y d : A) → f y ≡ f (get_or xs i d) → map f (set xs i y) ≡ map f xs
-map_set_same f [] i y d e = refl
-map_set_same f (x ∷ xs) zero y d e = ap (λ z. z ∷ map f xs) e
-map_set_same f (x ∷ xs) (suc i) y d e = ap (λ zs. f x ∷ zs) (map_set_same f xs i y d e)
-
 -- where all images differ, elements with one image are one
 pub once : {A B : Type 0} (f : A → B) {x y : A} (xs : List A) → Distinct (map f xs) → Mem x xs → Mem y xs → f x ≡ f y → x ≡ y
 unfolding Distinct
@@ -53,7 +47,7 @@ once f (z ∷ zs) d (there m) (here q) e = absurd (d.0 (mem-cast (sym (ap f q) �
 once f (z ∷ zs) d (there m) (there n) e = once f zs d.1 m n e
 
 pub empty_full : {V P : Type 0} {s : Slot V} → ◌≡◌ {A = Place V} Empty (Full s) → P
-empty_full e = let z : ◌≡◌ {A = ℕ} 0 1 = cc in absurd (omega arith)
+empty_full e = cc
 
 -- what lies in place i lies in the places
 pub slots_at : {V : Type 0} {s : Slot V} (ps : List (Place V)) (i : ℕ) → get_or ps i Empty ≡ Full s → Mem s (slots_of ps)

@@ -1,5 +1,5 @@
 -- The memories of a world, step by step.
-use Rattle.std.proofs.Common.{◌≡◌, ℕ, Bool, true, false, cond, not, ◌&&◌, ltb, List, Some, None, Option, sym, refl, ap, ◌∙◌, subst, arith}
+use Rattle.std.proofs.Common.{◌≡◌, ℕ, Bool, true, false, cond, not, ◌&&◌, ltb, List, Some, None, Option, sym, refl, ap, ◌∙◌, subst}
 use mathlib.Core.List.Memᴰ
 use Rattle.std.proofs.lemmas.Bool.{ltb-true, cond_both}
 use Rattle.keys.specs.declared.role.Role.{Role}
@@ -89,7 +89,7 @@ data Draws (s : Slot Term) (x : After Term) : Type 0 where
   refuses : (r : Refusal) → x.answer ≡ Refused r → Draws s x
 
 refused-placed : (r : Refusal) (i : ℕ) → ◌≡◌ {A = Answer Term} (Refused r) (Placed i) → ⊥
-refused-placed r i e = let z : ◌≡◌ {A = ℕ} 0 1 = cc in omega arith
+refused-placed r i e = cc
 
 draws : (t : Tag) (b : Box Term) → Draws (drawn_slot b t) (does terms (Make t) b)
 draws t b =

@@ -16,8 +16,8 @@ const OUTSIDE: [u8; 46] = [
 /// The place of the byte that says whether the key of a wrapping stays.
 const STAYS: usize = 13;
 
-/// All cases; each begins with new boxes.
-pub fn run(rt: &HostRuntime) -> io::Result<()> {
+/// All cases. Each makes new boxes, so it takes the runtime that they print by.
+pub fn run(rt: &impl Print) -> io::Result<()> {
     wrapped(rt)?;
     under_loaded(rt)?;
     under_shown(rt)?;
@@ -31,119 +31,119 @@ pub fn run(rt: &HostRuntime) -> io::Result<()> {
     between_boxes(rt)
 }
 
-fn title(rt: &HostRuntime, text: &str) -> io::Result<()> {
+fn title(rt: &impl Print, text: &str) -> io::Result<()> {
     println!(rt; "\n{text}")
 }
 
-fn wrapped(rt: &HostRuntime) -> io::Result<()> {
+fn wrapped(rt: &impl Print) -> io::Result<()> {
     println!(rt; "A key that stays, wrapped and unwrapped")?;
-    let mut first = Session::new(0);
-    first.make(rt, Role::Wrapper, true)?;
-    first.make(rt, Role::Sealer, true)?;
-    let blob = first.wrap(rt, 1, 0)?;
-    first.unwrap(rt, 0, blob.bytes())
+    let mut first = Session::new(rt, 0);
+    first.make(Role::Wrapper, true)?;
+    first.make(Role::Sealer, true)?;
+    let blob = first.wrap(1, 0)?;
+    first.unwrap(0, blob.as_slice())
 }
 
-fn under_loaded(rt: &HostRuntime) -> io::Result<()> {
+fn under_loaded(rt: &impl Print) -> io::Result<()> {
     title(rt, "A key that stays, under a loaded wrapper")?;
-    let mut first = Session::new(0);
-    first.make(rt, Role::Sealer, true)?;
-    first.load(rt, Role::Wrapper, &KNOWN)?;
-    let _blob = first.wrap(rt, 0, 1)?;
+    let mut first = Session::new(rt, 0);
+    first.make(Role::Sealer, true)?;
+    first.load(Role::Wrapper, &KNOWN)?;
+    first.wrap(0, 1)?;
     Ok(())
 }
 
-fn under_shown(rt: &HostRuntime) -> io::Result<()> {
+fn under_shown(rt: &impl Print) -> io::Result<()> {
     title(rt, "A key that stays, under a wrapper that was shown")?;
-    let mut first = Session::new(0);
-    first.make(rt, Role::Sealer, false)?;
-    let key = first.show(rt, 0)?;
-    first.load(rt, Role::Wrapper, &key)?;
-    first.make(rt, Role::Sealer, true)?;
-    let _blob = first.wrap(rt, 2, 1)?;
+    let mut first = Session::new(rt, 0);
+    first.make(Role::Sealer, false)?;
+    let key = first.show(0)?;
+    first.load(Role::Wrapper, &key)?;
+    first.make(Role::Sealer, true)?;
+    first.wrap(2, 1)?;
     Ok(())
 }
 
-fn made_outside(rt: &HostRuntime) -> io::Result<()> {
+fn made_outside(rt: &impl Print) -> io::Result<()> {
     title(rt, "Blobs made outside any box")?;
-    let mut first = Session::new(0);
-    first.load(rt, Role::Wrapper, &KNOWN)?;
+    let mut first = Session::new(rt, 0);
+    first.load(Role::Wrapper, &KNOWN)?;
     let mut blob = OUTSIDE;
     blob[STAYS] = 1;
-    first.unwrap(rt, 0, &blob)?;
+    first.unwrap(0, &blob)?;
     blob[STAYS] = 0;
-    first.unwrap(rt, 0, &blob)
+    first.unwrap(0, &blob)
 }
 
-fn sealed(rt: &HostRuntime) -> io::Result<()> {
+fn sealed(rt: &impl Print) -> io::Result<()> {
     title(rt, "A text, sealed and opened")?;
-    let mut first = Session::new(0);
-    let mut second = Session::new(1);
-    first.make(rt, Role::Sealer, true)?;
-    let blob = first.seal(rt, 0, b"ab")?;
-    first.open(rt, 0, blob.bytes())?;
-    second.open(rt, 0, blob.bytes())?;
-    second.make(rt, Role::Sealer, true)?;
-    second.open(rt, 0, blob.bytes())
+    let mut first = Session::new(rt, 0);
+    let mut second = Session::new(rt, 1);
+    first.make(Role::Sealer, true)?;
+    let blob = first.seal(0, b"ab")?;
+    first.open(0, blob.as_slice())?;
+    second.open(0, blob.as_slice())?;
+    second.make(Role::Sealer, true)?;
+    second.open(0, blob.as_slice())
 }
 
-fn derived(rt: &HostRuntime) -> io::Result<()> {
+fn derived(rt: &impl Print) -> io::Result<()> {
     title(rt, "Keys derived from a base")?;
-    let mut first = Session::new(0);
-    first.make(rt, Role::Base, false)?;
-    first.derive(rt, 0, 5, Role::Sealer)?;
-    first.derive(rt, 0, 5, Role::Sealer)?;
-    first.derive(rt, 0, 5, Role::Marker)?;
+    let mut first = Session::new(rt, 0);
+    first.make(Role::Base, false)?;
+    first.derive(0, 5, Role::Sealer)?;
+    first.derive(0, 5, Role::Sealer)?;
+    first.derive(0, 5, Role::Marker)?;
     for at in 1..4 {
-        let _key = first.show(rt, at)?;
+        first.show(at)?;
     }
     Ok(())
 }
 
-fn full(rt: &HostRuntime) -> io::Result<()> {
+fn full(rt: &impl Print) -> io::Result<()> {
     title(rt, "A full box")?;
-    let mut first = Session::new(0);
+    let mut first = Session::new(rt, 0);
     for _ in 0..64 {
-        first.make(rt, Role::Sealer, false)?;
+        first.make(Role::Sealer, false)?;
     }
-    first.forget(rt, 9)?;
-    first.make(rt, Role::Sealer, false)?;
-    let _key = first.show(rt, 9)?;
+    first.forget(9)?;
+    first.make(Role::Sealer, false)?;
+    first.show(9)?;
     Ok(())
 }
 
-fn other_role(rt: &HostRuntime) -> io::Result<()> {
+fn other_role(rt: &impl Print) -> io::Result<()> {
     title(rt, "Another role")?;
-    let mut first = Session::new(0);
-    first.make(rt, Role::Sealer, true)?;
-    first.mark(rt, 0, b"ab")?;
-    first.make(rt, Role::Marker, true)?;
-    first.mark(rt, 1, b"ab")
+    let mut first = Session::new(rt, 0);
+    first.make(Role::Sealer, true)?;
+    first.mark(0, b"ab")?;
+    first.make(Role::Marker, true)?;
+    first.mark(1, b"ab")
 }
 
-fn under_itself(rt: &HostRuntime) -> io::Result<()> {
+fn under_itself(rt: &impl Print) -> io::Result<()> {
     title(rt, "A wrapper under itself")?;
-    let mut first = Session::new(0);
-    first.make(rt, Role::Wrapper, true)?;
-    let blob = first.wrap(rt, 0, 0)?;
-    first.unwrap(rt, 0, blob.bytes())
+    let mut first = Session::new(rt, 0);
+    first.make(Role::Wrapper, true)?;
+    let blob = first.wrap(0, 0)?;
+    first.unwrap(0, blob.as_slice())
 }
 
-fn shown(rt: &HostRuntime) -> io::Result<()> {
+fn shown(rt: &impl Print) -> io::Result<()> {
     title(rt, "A key that stays is not shown")?;
-    let mut first = Session::new(0);
-    first.make(rt, Role::Sealer, true)?;
-    let _key = first.show(rt, 0)?;
+    let mut first = Session::new(rt, 0);
+    first.make(Role::Sealer, true)?;
+    first.show(0)?;
     Ok(())
 }
 
-fn between_boxes(rt: &HostRuntime) -> io::Result<()> {
+fn between_boxes(rt: &impl Print) -> io::Result<()> {
     title(rt, "From one box to another, under the house key")?;
-    let mut first = Session::new(0);
-    let mut second = Session::new(1);
-    first.make(rt, Role::Sealer, true)?;
-    let blob = first.wrap(rt, 0, 63)?;
-    second.unwrap(rt, 63, blob.bytes())?;
-    let sealed = first.seal(rt, 0, b"ab")?;
-    second.open(rt, 0, sealed.bytes())
+    let mut first = Session::new(rt, 0);
+    let mut second = Session::new(rt, 1);
+    first.make(Role::Sealer, true)?;
+    let blob = first.wrap(0, 63)?;
+    second.unwrap(63, blob.as_slice())?;
+    let sealed = first.seal(0, b"ab")?;
+    second.open(0, sealed.as_slice())
 }

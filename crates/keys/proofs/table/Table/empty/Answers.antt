@@ -1,5 +1,0 @@
-use Rattle.keys.proofs.Places.{put_state}
-use Rattle.keys.proofs.table.Table.empty.Goals as goal
-
-pub returns : goal.returns
-returns c = put_state c.args.self.now c.args.at c.clear.new.self _ (cc)
