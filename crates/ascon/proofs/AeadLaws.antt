@@ -1,14 +1,15 @@
 -- One block of Ascon-AEAD128 at a time, for the loops over data and text.
 use Rattle.std.proofs.Common.{◌≡◌, ℕ, suc, ◌+◌, ◌-◌, ◌/◌, ◌<◌, ◌≤◌, List, [], ◌∷◌, ◌++◌, length, fold, take, drop, replicate, sym, refl, ap, ◌∙◌, arith}
+use native.Mathlib.Nat.{div-eq_of_lt}
 use borrow.Rule.Slice.PartMut.{put_mid}
 use lib.Bits.{bit_or, bit_xor, or_add_and, and_le_l, and_le_r, xor_assoc, xor_self, xor_zero_l, xor_zero_r}
-use Rattle.std.proofs.lemmas.List.{take_rest, length-drop, drop_all, append-nil}
+use Rattle.std.proofs.lemmas.List.{take_rest, length-drop, drop_all, append-nil, nil_from_length}
 use Rattle.std.specs.Array.{IsFirstChunk}
 use Rattle.ascon.specs.declared.state.State.{State}
 use Rattle.ascon.specs.Permutation.{p8}
-use Rattle.ascon.specs.Blocks.{bytes, word, pad, padded}
+use Rattle.ascon.specs.Blocks.{bytes, padded}
 use Rattle.ascon.specs.Aead.{rate, add, replace, absorbed, with_data, encrypted, after_text, decrypted, after_ciphertext}
-use Rattle.ascon.proofs.BlockLaws.{whole_more, whole_none, length_written, behind_written, block_written, word_noughts}
+use Rattle.ascon.proofs.BlockLaws.{whole_more, length_written, behind_written, block_written, word_noughts}
 
 pub length-rate : (s : State) → length (rate s) ≡ 16
 unfolding rate bytes
@@ -25,8 +26,7 @@ absorbed-fold (b ∷ bs) s = absorbed-fold bs (data_step s b)
 
 pub no_data : (s : State) (a : List ℕ) → length a ≡ 0 → with_data s a ≡ s
 unfolding with_data
-no_data s [] h = refl
-no_data s (x ∷ a) h = let z : ⊥ = omega arith in absurd z
+no_data s a h = rw (nil_from_length a h) refl
 
 pub some_data : (s : State) (a : List ℕ) → (length a ≡ 0 → ⊥) → with_data s a ≡ absorbed s (padded 16 a)
 unfolding with_data
@@ -96,7 +96,7 @@ module _ (text : ℕ → State → List ℕ → List ℕ) (state : ℕ → State
   left_last r out short o e =
       let w : at ≤ length cur = left.within in
       let rest : take (length cur - at) (drop at cur) ≡ drop at cur = take_rest cur at in
-      let none : length (drop at cur) / 16 ≡ 0 = whole_none 16 (drop at cur) (rw rest at short) in
+      let none : length (drop at cur) / 16 ≡ 0 = div-eq_of_lt (rw rest at short) in
       let end : drop (length cur - at) (drop at cur) ≡ [] = drop_all (length cur - at) (drop at cur) (simp length-drop (omega arith)) in
       let nil : out ++ [] ≡ out = append-nil out in
       let all = left.bytes in
@@ -132,19 +132,3 @@ decrypt_step s₀ t₀ s cur at block a r s' out k left here size e f o p =
     let step = decrypted_more s (drop at cur) more in
     let step' = after_ciphertext_more s (drop at cur) more in
     left_more decrypted after_ciphertext s₀ t₀ s cur at left s' out k size fits whole (cc) (cc)
-
--- a last block of padding alone
-pub add_padding : (s : State) → add s (pad 16 []) ≡ record { x0 = bit_xor s.x0 1; x1 = s.x1; x2 = s.x2; x3 = s.x3; x4 = s.x4 }
-unfolding add word
-add_padding s = let same_x1 : bit_xor s.x1 0 ≡ s.x1 = xor_zero_r s.x1 in rw same_x1
-
--- an empty last block
-pub encrypt_none : (s : State) (t : List ℕ) → length t ≡ 0 → (t ≡ encrypted 0 s t) × (add s (pad 16 []) ≡ after_text 0 s t)
-unfolding encrypted after_text
-encrypt_none s [] h = (refl, refl)
-encrypt_none s (x ∷ t) h = let z : ⊥ = omega arith in absurd z
-
-pub decrypt_none : (s : State) (c : List ℕ) → length c ≡ 0 → (c ≡ decrypted 0 s c) × (add s (pad 16 []) ≡ after_ciphertext 0 s c)
-unfolding decrypted after_ciphertext
-decrypt_none s [] h = (refl, refl)
-decrypt_none s (x ∷ c) h = let z : ⊥ = omega arith in absurd z

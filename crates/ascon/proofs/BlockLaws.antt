@@ -15,10 +15,6 @@ use Rattle.ascon.specs.Blocks.{pad, blocks, padded, bytes, word}
 pub whole_more : (r : ℕ) (m : List ℕ) → 0 < r → r ≤ length m → length m / r ≡ suc (length (drop r m) / r)
 whole_more r m p h = div-eq-sub-div p h ∙ (add-one ((length m - r) / r) ∙ ap (λ n. suc (n / r)) (sym (length-drop r m)))
 
--- no whole block
-pub whole_none : (r : ℕ) (m : List ℕ) → length m < r → length m / r ≡ 0
-whole_none r m h = div-eq_of_lt h
-
 -- n whole blocks of r bytes, and less than one more
 abbrev pub Cut : ℕ → ℕ → List ℕ → Type 0
 Cut r zero m = length m < r
@@ -32,7 +28,7 @@ cut r p zero m e =
     (cases_lt (length m) r)
 cut r p (suc n) m e =
     ⊎_elim
-    (λ (h : length m < r). let none = whole_none r m h in let z : ⊥ = omega arith in absurd z)
+    (λ (h : length m < r). let none : length m / r ≡ 0 = div-eq_of_lt h in let z : ⊥ = omega arith in absurd z)
     (λ (h : r ≤ length m). let more = whole_more r m p h in (h, cut r p n (drop r m) (omega arith)))
     (cases_lt (length m) r)
 

@@ -90,6 +90,6 @@ words_key k t h =
     cc
 
 -- a key, then a text, under a customization string
-pub keyed-absorbed : (p : Purpose) (k t : List ℕ) → length k ≡ 16 → keyed p k t ≡ output 16 (absorbed_words (p12 (add_word (p12 (add_word (customized (string_of p)) (word k))) (word (drop 8 k)))) (words t))
+pub keyed_absorbed : (p : Purpose) (k t : List ℕ) → length k ≡ 16 → keyed p k t ≡ output 16 (absorbed_words (p12 (add_word (p12 (add_word (customized (string_of p)) (word k))) (word (drop 8 k)))) (words t))
 unfolding keyed absorbed_words
-keyed-absorbed p k t h = cxof_customized (string_of p) (k ++ t) 16 ∙ ap (λ (ws : List ℕ). output 16 (absorbed_words (customized (string_of p)) ws)) (words_key k t h)
+keyed_absorbed p k t h = cxof_customized (string_of p) (k ++ t) 16 ∙ ap (λ (ws : List ℕ). output 16 (absorbed_words (customized (string_of p)) ws)) (words_key k t h)

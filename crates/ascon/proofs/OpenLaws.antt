@@ -1,8 +1,9 @@
 -- Decryption undoes encryption, and encryption decryption, with the same state behind.
-use Rattle.std.proofs.Common.{◌≡◌, ℕ, zero, suc, ◌+◌, ◌-◌, ◌/◌, ◌<◌, ◌≤◌, Bool, true, false, cond, List, ◌++◌, length, get_or, take, drop, Some, None, sym, refl, ap, ◌∙◌, subst, ⊎_elim, arith}
+use Rattle.std.proofs.Common.{◌≡◌, ℕ, zero, suc, ◌+◌, ◌-◌, ◌/◌, ◌<◌, ◌≤◌, true, false, List, ◌++◌, length, get_or, take, drop, Some, None, sym, refl, ap, ◌∙◌, subst, ⊎_elim, arith}
 use lib.Bits.{bit_xor, xor_assoc, xor_self, xor_zero_l}
 use Rattle.std.proofs.lemmas.List.{take_all, length-append, length-drop, length-take-le, take_at, drop_at, take-append-drop, get_or_append_left, get_or-append_right, get_or-take, get_or-drop, ext_get_or}
 use Rattle.std.proofs.lemmas.Bool.{cases_lt}
+use Rattle.std.proofs.lemmas.Option.{cond_some}
 use Rattle.std.specs.Str.{bytes_eq}
 use Rattle.std.proofs.lemmas.Slice.Eq.{bytes_eq-Decides}
 use Rattle.ascon.specs.declared.state.State.{State}
@@ -33,7 +34,7 @@ rate-add s b h i p = ⊎_elim low high (cases_lt i 8) where
       let r : i < length (bytes s.x0) = rw (length-bytes s.x0) q in
       let one = get_or_append_left (bytes (bit_xor s.x0 (word b))) (bytes (bit_xor s.x1 (word (drop 8 b)))) 0 i l in
       let two = get_or_append_left (bytes s.x0) (bytes s.x1) 0 i r in
-      one ∙ (byte-xor s.x0 (word b) i q ∙ (ap (bit_xor (get_or (bytes s.x0) i 0)) (byte_word b h i q) ∙ sym (ap (λ n. bit_xor n (get_or b i 0)) two)))
+      one ∙ (byte-xor s.x0 (word b) i ∙ (ap (bit_xor (get_or (bytes s.x0) i 0)) (byte_word b h i q) ∙ sym (ap (λ n. bit_xor n (get_or b i 0)) two)))
 
   high : 8 ≤ i → get_or (bytes (bit_xor s.x0 (word b)) ++ bytes (bit_xor s.x1 (word (drop 8 b)))) i 0 ≡ bit_xor (get_or (bytes s.x0 ++ bytes s.x1) i 0) (get_or b i 0)
   high q =
@@ -42,7 +43,7 @@ rate-add s b h i p = ⊎_elim low high (cases_lt i 8) where
       let two = get_or-append_right (bytes s.x0) (bytes s.x1) 8 i 0 (length-bytes s.x0) q in
       let e : 8 + (i - 8) ≡ i = omega arith in
       let byte : get_or (bytes (word (drop 8 b))) (i - 8) 0 ≡ get_or b i 0 = byte_word (drop 8 b) (Bytes-drop 8 b h) (i - 8) j ∙ (get_or-drop 8 b (i - 8) 0 ∙ ap (λ n. get_or b n 0) e) in
-      one ∙ (byte-xor s.x1 (word (drop 8 b)) (i - 8) j ∙ (ap (bit_xor (get_or (bytes s.x1) (i - 8) 0)) byte ∙ sym (ap (λ n. bit_xor n (get_or b i 0)) two)))
+      one ∙ (byte-xor s.x1 (word (drop 8 b)) (i - 8) ∙ (ap (bit_xor (get_or (bytes s.x1) (i - 8) 0)) byte ∙ sym (ap (λ n. bit_xor n (get_or b i 0)) two)))
 
 -- bytes that are the rate's after a block was added give that block back
 back : (s : State) (b c : List ℕ) → Bytes b → Bytes c → (i : ℕ) → i < 16 → get_or c i 0 ≡ get_or (rate (add s b)) i 0 → get_or (rate (add s c)) i 0 ≡ get_or b i 0
@@ -209,13 +210,10 @@ opens k n a t bk bn ba bt = opens_from k n a (begun k n a) refl (begun_fits k n 
 
 pub only : Only
 unfolding opened
-only k n a c g t bk bn ba bc e = go (bytes_eq (finalized k (after_ciphertext (length c / 16) (begun k n a) c)) g) refl e where
-  go : (b : Bool) → bytes_eq (finalized k (after_ciphertext (length c / 16) (begun k n a) c)) g ≡ b → cond b (Some (decrypted (length c / 16) (begun k n a) c)) None ≡ Some t → IsSealing k n a t c g
-  go true p q =
-      let text : decrypted (length c / 16) (begun k n a) c ≡ t = cc in
-      let P : List ℕ → Type 0 = λ x. IsSealing k n a x c g in
-      subst P text (sealed_from k n a (begun k n a) refl (begun_fits k n a bk bn ba) c g bc p)
-  go false p q = let z : ◌≡◌ {A = ℕ} 0 1 = cc in let y : ⊥ = omega arith in absurd y
+only k n a c g t bk bn ba bc e =
+    let right = cond_some (bytes_eq (finalized k (after_ciphertext (length c / 16) (begun k n a) c)) g) (decrypted (length c / 16) (begun k n a) c) t e in
+    let P : List ℕ → Type 0 = λ x. IsSealing k n a x c g in
+    subst P right.1 (sealed_from k n a (begun k n a) refl (begun_fits k n a bk bn ba) c g bc right.0)
 
 -- opening, by whether the tag is right
 module _ (k n a c g : List ℕ) where

@@ -1,7 +1,6 @@
 -- Words and their bytes determine one another, and exclusive or goes byte by byte.
 use Rattle.std.proofs.Common.{◌≡◌, ℕ, zero, suc, ◌+◌, ◌-◌, ◌*◌, ◌/◌, ◌%◌, ◌^◌, ◌<◌, ◌≤◌, List, [], ◌∷◌, ◌++◌, length, get_or, take, drop, replicate, refl, ap, ◌∙◌, ⊎_elim, arith}
 use lib.Bits.{bit_xor, xor_shr, xor_mod}
-use Rattle.std.proofs.lemmas.Nat.{mod_below}
 use Rattle.std.proofs.lemmas.List.{length-append, length-take, length-replicate, get_or_append_left, get_or_past, get_or-take, get_or-drop}
 use Rattle.std.proofs.lemmas.Bool.{cases_lt}
 use Rattle.ascon.specs.Blocks.{Bytes, word, bytes, pad}
@@ -46,17 +45,24 @@ word_lt b h =
     let h7 = h 7 in
     omega arith
 
+-- each place among eight, and those behind them
+places : (P : ℕ → Type 0) → P 0 → P 1 → P 2 → P 3 → P 4 → P 5 → P 6 → P 7 → ((i : ℕ) → P (suc (suc (suc (suc (suc (suc (suc (suc i))))))))) → (i : ℕ) → P i
+places P a b c d e f g h behind zero = a
+places P a b c d e f g h behind (suc zero) = b
+places P a b c d e f g h behind (suc (suc zero)) = c
+places P a b c d e f g h behind (suc (suc (suc zero))) = d
+places P a b c d e f g h behind (suc (suc (suc (suc zero)))) = e
+places P a b c d e f g h behind (suc (suc (suc (suc (suc zero))))) = f
+places P a b c d e f g h behind (suc (suc (suc (suc (suc (suc zero)))))) = g
+places P a b c d e f g h behind (suc (suc (suc (suc (suc (suc (suc zero))))))) = h
+places P a b c d e f g h behind (suc (suc (suc (suc (suc (suc (suc (suc i)))))))) = behind i
+
 -- eight values, place by place
 eight_at : (f : ℕ → ℕ) (i : ℕ) → i < 8 → get_or (f 0 ∷ (f 1 ∷ (f 2 ∷ (f 3 ∷ (f 4 ∷ (f 5 ∷ (f 6 ∷ (f 7 ∷ [])))))))) i 0 ≡ f i
-eight_at f zero h = refl
-eight_at f (suc zero) h = refl
-eight_at f (suc (suc zero)) h = refl
-eight_at f (suc (suc (suc zero))) h = refl
-eight_at f (suc (suc (suc (suc zero)))) h = refl
-eight_at f (suc (suc (suc (suc (suc zero))))) h = refl
-eight_at f (suc (suc (suc (suc (suc (suc zero)))))) h = refl
-eight_at f (suc (suc (suc (suc (suc (suc (suc zero))))))) h = refl
-eight_at f (suc (suc (suc (suc (suc (suc (suc (suc i)))))))) h = let z : ⊥ = omega arith in absurd z
+eight_at f =
+    places (λ (i : ℕ). i < 8 → get_or (f 0 ∷ (f 1 ∷ (f 2 ∷ (f 3 ∷ (f 4 ∷ (f 5 ∷ (f 6 ∷ (f 7 ∷ [])))))))) i 0 ≡ f i)
+    (λ _. refl) (λ _. refl) (λ _. refl) (λ _. refl) (λ _. refl) (λ _. refl) (λ _. refl) (λ _. refl)
+    (λ (i : ℕ) (h : suc (suc (suc (suc (suc (suc (suc (suc i))))))) < 8). let z : ⊥ = omega arith in absurd z)
 
 -- a word's bytes are those it is made of
 pub byte_word : (b : List ℕ) → Bytes b → (i : ℕ) → i < 8 → get_or (bytes (word b)) i 0 ≡ get_or b i 0
@@ -67,29 +73,19 @@ byte_word b h i p = ap (λ (xs : List ℕ). get_or xs i 0) (bytes_of (get_or b 0
 xor-byte : (x y k : ℕ) → bit_xor x y / 2 ^ k % 2 ^ 8 ≡ bit_xor (x / 2 ^ k % 2 ^ 8) (y / 2 ^ k % 2 ^ 8)
 xor-byte x y k = ap (λ n. n % 2 ^ 8) (xor_shr x y k) ∙ xor_mod (x / 2 ^ k) (y / 2 ^ k) 8
 
-pub byte-xor : (x y i : ℕ) → i < 8 → get_or (bytes (bit_xor x y)) i 0 ≡ bit_xor (get_or (bytes x) i 0) (get_or (bytes y) i 0)
+pub byte-xor : (x y i : ℕ) → get_or (bytes (bit_xor x y)) i 0 ≡ bit_xor (get_or (bytes x) i 0) (get_or (bytes y) i 0)
 unfolding bytes
-byte-xor x y zero h = xor_mod x y 8
-byte-xor x y (suc zero) h = xor-byte x y 8
-byte-xor x y (suc (suc zero)) h = xor-byte x y 16
-byte-xor x y (suc (suc (suc zero))) h = xor-byte x y 24
-byte-xor x y (suc (suc (suc (suc zero)))) h = xor-byte x y 32
-byte-xor x y (suc (suc (suc (suc (suc zero))))) h = xor-byte x y 40
-byte-xor x y (suc (suc (suc (suc (suc (suc zero)))))) h = xor-byte x y 48
-byte-xor x y (suc (suc (suc (suc (suc (suc (suc zero))))))) h = xor-byte x y 56
-byte-xor x y (suc (suc (suc (suc (suc (suc (suc (suc i)))))))) h = let z : ⊥ = omega arith in absurd z
+byte-xor x y =
+    places (λ (i : ℕ). get_or (bytes (bit_xor x y)) i 0 ≡ bit_xor (get_or (bytes x) i 0) (get_or (bytes y) i 0))
+    (xor_mod x y 8) (xor-byte x y 8) (xor-byte x y 16) (xor-byte x y 24) (xor-byte x y 32) (xor-byte x y 40) (xor-byte x y 48) (xor-byte x y 56)
+    (λ _. refl)
 
 pub Bytes-bytes : (x : ℕ) → Bytes (bytes x)
 unfolding bytes
-Bytes-bytes x zero = mod_below x 256 (omega arith)
-Bytes-bytes x (suc zero) = mod_below (x / 256) 256 (omega arith)
-Bytes-bytes x (suc (suc zero)) = mod_below (x / 65536) 256 (omega arith)
-Bytes-bytes x (suc (suc (suc zero))) = mod_below (x / 16777216) 256 (omega arith)
-Bytes-bytes x (suc (suc (suc (suc zero)))) = mod_below (x / 4294967296) 256 (omega arith)
-Bytes-bytes x (suc (suc (suc (suc (suc zero))))) = mod_below (x / 1099511627776) 256 (omega arith)
-Bytes-bytes x (suc (suc (suc (suc (suc (suc zero)))))) = mod_below (x / 281474976710656) 256 (omega arith)
-Bytes-bytes x (suc (suc (suc (suc (suc (suc (suc zero))))))) = mod_below (x / 72057594037927936) 256 (omega arith)
-Bytes-bytes x (suc (suc (suc (suc (suc (suc (suc (suc i)))))))) = omega arith
+Bytes-bytes x =
+    places (λ (i : ℕ). get_or (bytes x) i 0 < 256)
+    (omega arith) (omega arith) (omega arith) (omega arith) (omega arith) (omega arith) (omega arith) (omega arith)
+    (λ _. omega arith)
 
 pub Bytes-drop : (n : ℕ) (xs : List ℕ) → Bytes xs → Bytes (drop n xs)
 Bytes-drop n xs h i = rw get_or-drop (h (n + i))

@@ -1,11 +1,11 @@
 //! Ascon-AEAD128. Text is sealed and opened in place, so that lengths always fit and no second
 //! copy of a text arises.
 
-ghost use Rattle.std.specs.Prelude.{◌≡◌, ◌/◌, ◌<◌, true, [], codes, length, replicate, is_ok, is_some, Some};
+ghost use Rattle.std.specs.Prelude.{◌≡◌, ◌/◌, ◌<◌, true, codes, length, replicate, is_ok, is_some, Some};
 ghost use Rattle.std.specs.Str.{bytes_eq};
 ghost use Rattle.std.specs.Option.{unwrap_or};
 ghost use Rattle.ascon.specs.Laws.{IsSealing};
-ghost use Rattle.ascon.specs.Blocks.{pad, padded};
+ghost use Rattle.ascon.specs.Blocks.{padded};
 ghost use Rattle.ascon.specs.Permutation.{p12 as permuted12};
 ghost use Rattle.ascon.specs.Aead.{rate as rate_of, add as added, replace as replaced, add_key_high as key_added_high, add_key_low as key_added_low, initialized, absorbed, with_data, separated, begun, encrypted, after_text, decrypted, after_ciphertext, finalized, ciphertext, tag as tag_of, opened};
 
@@ -22,6 +22,7 @@ const TEXT_BIT: u64 = 1 << 63;
 
 impl State {
     // `add` and `replace` are two steps of the standard; one with a parameter would be no plainer.
+    #[tactic(auto, unfolding(crate::specs::Aead::add))]
     fn add(self, block: &[u8; 16]) -> State
         ensures { result ≡ added self block.now }
     {
@@ -33,6 +34,7 @@ impl State {
         }
     }
 
+    #[tactic(auto, unfolding(crate::specs::Aead::replace))]
     fn replace(self, block: &[u8; 16]) -> State
         ensures { result ≡ replaced self block.now }
     {
@@ -40,6 +42,7 @@ impl State {
         State { x0, x1, ..self }
     }
 
+    #[tactic(auto, unfolding(crate::specs::Aead::rate))]
     fn rate(self) -> [u8; 16]
         ensures { result ≡ rate_of self }
     {
@@ -47,6 +50,7 @@ impl State {
     }
 
     // Two steps again; with the words' places as parameters they would be no plainer.
+    #[tactic(auto, unfolding(crate::specs::Aead::add_key_high))]
     fn add_key_high(self, key: &[u8; 16]) -> State
         ensures { result ≡ key_added_high key.now self }
     {
@@ -58,6 +62,7 @@ impl State {
         }
     }
 
+    #[tactic(auto, unfolding(crate::specs::Aead::add_key_low))]
     fn add_key_low(self, key: &[u8; 16]) -> State
         ensures { result ≡ key_added_low key.now self }
     {
@@ -69,7 +74,8 @@ impl State {
         }
     }
 
-    // Not one form with `absorb_words`: a closure's bound may not name the size of a block yet.
+    // Not one form with `absorb_words`: the check covers no closure over `&[u8; N]`, and a trait with
+    // a type for each size of block would be longer than both loops.
     #[inline(always)]
     fn absorb(self, message: &[u8]) -> State
         ensures { result ≡ absorbed self (padded 16 message.now) }
@@ -80,20 +86,11 @@ impl State {
     }
 
     #[inline(always)]
+    #[tactic(auto, using(crate::proofs::AeadLaws::no_data, crate::proofs::AeadLaws::some_data))]
     fn absorb_data(self, ad: &[u8]) -> State
         ensures { result ≡ with_data self ad.now }
     {
         if ad.is_empty() { self } else { self.absorb(ad) }
-    }
-
-    // A last block of padding alone, whose byte 01 is the lowest of x0.
-    fn add_padding(self) -> State
-        ensures { result ≡ added self (pad 16 []) }
-    {
-        State {
-            x0: self.x0 ^ 1,
-            ..self
-        }
     }
 
     // From associated data to text.
@@ -106,14 +103,17 @@ impl State {
         }
     }
 
-    // The last block, which has fewer than sixteen bytes.
+    // The last block, which has fewer than sixteen bytes. Encryption and decryption, here and of whole
+    // blocks, are not one form: it would take both steps and both pairs of definitions as parameters.
+    #[tactic(auto, unfolding(crate::specs::Aead::encrypted, crate::specs::Aead::after_text))]
     fn encrypt_last(self, text: &mut [u8]) -> State
         requires { length text.old < 16 }
         ensures bytes { text.new ≡ encrypted 0 self text.old }
         ensures state { result ≡ after_text 0 self text.old }
     {
+        // For speed alone: what is below does the same for an empty tail.
         if text.is_empty() {
-            return self.add_padding();
+            return self.add(&last_block(&[], PAD));
         }
         let s = self.add(&last_block(text, PAD));
         let n = text.len();
@@ -121,7 +121,6 @@ impl State {
         s
     }
 
-    // Apart from `decrypt`: one form of both would take each step, and both of its definitions.
     fn encrypt(self, text: &mut [u8]) -> State
         ensures bytes { text.new ≡ encrypted (length text.old / 16) self text.old }
         ensures state { result ≡ after_text (length text.old / 16) self text.old }
@@ -139,13 +138,15 @@ impl State {
     }
 
     // The last block, which has fewer than sixteen bytes.
+    #[tactic(auto, using(crate::proofs::AeadLaws::add_noughts), unfolding(crate::specs::Aead::decrypted, crate::specs::Aead::after_ciphertext))]
     fn decrypt_last(self, text: &mut [u8]) -> State
         requires { length text.old < 16 }
         ensures bytes { text.new ≡ decrypted 0 self text.old }
         ensures state { result ≡ after_ciphertext 0 self text.old }
     {
+        // For speed alone: what is below does the same for an empty tail.
         if text.is_empty() {
-            return self.add_padding();
+            return self.add(&last_block(&[], PAD));
         }
         let opened = self.add(&last_block(text, 0)).rate();
         let n = text.len();
@@ -177,6 +178,7 @@ impl State {
         self.add_key_high(key).p12().add_key_low(key)
     }
 
+    #[tactic(auto, unfolding(crate::specs::Aead::finalized))]
     fn finalize(self, key: &[u8; 16]) -> [u8; 16]
         ensures { result ≡ finalized key.now self }
     {
@@ -185,6 +187,7 @@ impl State {
     }
 
     // Whether `tag` is the tag; the one that would be right is never written to memory.
+    #[tactic(auto, unfolding(crate::specs::Aead::finalized))]
     fn has_tag(self, key: &[u8; 16], tag: &[u8; 16]) -> bool
         ensures { result ≡ bytes_eq (finalized key.now self) tag.now }
     {
@@ -216,6 +219,7 @@ pub struct Aead<'a> {
 }
 
 impl Aead<'_> {
+    #[tactic(auto, unfolding(crate::specs::Aead::initialized))]
     fn initialize(self) -> State
         ensures { result ≡ initialized self.entry.key.now self.entry.nonce.now }
     {
@@ -234,6 +238,7 @@ impl Aead<'_> {
     // The state before the text. It and what it calls are compiled into `seal` and `open`, so that
     // the state stays in registers and leaves no copy on the stack.
     #[inline(always)]
+    #[tactic(auto, unfolding(crate::specs::Aead::begun))]
     fn begin(self) -> State
         ensures { result ≡ begun self.entry.key.now self.entry.nonce.now self.entry.data.now }
     {

@@ -13,6 +13,7 @@ pub(crate) fn are_bytes(b: &[u8])
 }
 
 // The word of a block of eight bytes.
+#[tactic(auto, unfolding(crate::specs::Blocks::word))]
 pub(crate) fn word(block: &[u8; 8]) -> u64
     ensures { result ≡ word_of block.now }
 {
@@ -20,6 +21,7 @@ pub(crate) fn word(block: &[u8; 8]) -> u64
 }
 
 // The two words of a block of sixteen bytes.
+#[tactic(auto, using(crate::proofs::BlockLaws::halves))]
 pub(crate) fn words(block: &[u8; 16]) -> (u64, u64)
     ensures low { result.0 ≡ word_of block.now }
     ensures high { result.1 ≡ word_of (drop 8 block.now) }
@@ -48,6 +50,7 @@ fn difference(block: &[u8; 16], low: u64, high: u64) -> u64
 
 // Whether sixteen bytes are those of two words: all of them are looked at, whatever they are, with
 // no early exit and no branch.
+#[tactic(auto, using(crate::proofs::TagLaws::tag_same))]
 pub(crate) fn is_pair(block: &[u8; 16], low: u64, high: u64) -> bool
     ensures { result ≡ bytes_eq (bytes low ++ bytes high) block.now }
 {

@@ -13,8 +13,8 @@ const HASH_IV: u64 = 0x0000_0801_00cc_0002;
 
 const CXOF_IV: u64 = 0x0000_0800_00cc_0004;
 
-// The longest customization string, in bytes.
-const STRING_LIMIT: usize = 256;
+/// The longest customization string, in bytes.
+pub const STRING_LIMIT: usize = 256;
 
 /// A customization string of more than 256 bytes.
 #[derive(Clone, Copy, Debug, PartialEq, Eq)]
@@ -31,6 +31,7 @@ impl fmt::Display for StringTooLong {
 impl Error for StringTooLong {}
 
 impl State {
+    #[tactic(auto, unfolding(crate::specs::Hash::add_word))]
     pub(crate) fn add_word(self, w: u64) -> State
         ensures { result ≡ word_added self w }
     {
@@ -67,6 +68,7 @@ impl State {
     }
 }
 
+#[tactic(auto, unfolding(crate::specs::Hash::initial))]
 fn initial(iv: u64) -> State
     ensures { result ≡ initial_of iv }
 {
@@ -81,15 +83,19 @@ fn initial(iv: u64) -> State
 }
 
 /// Ascon-Hash256 of a message.
-pub fn hash256(message: &[u8], out: &mut [u8; 32])
-    ensures { out.new ≡ hash_of message.now }
+#[tactic(auto, unfolding(crate::specs::Hash::hash256))]
+pub fn hash256(message: &[u8]) -> [u8; 32]
+    ensures { result ≡ hash_of message.now }
 {
-    initial(HASH_IV).absorb_words(message).squeeze(out)
+    let mut digest = [0; 32];
+    initial(HASH_IV).absorb_words(message).squeeze(&mut digest);
+    digest
 }
 
 // The state of Ascon-CXOF128 once the customization string is absorbed.
+#[tactic(auto, unfolding(crate::specs::Hash::customized, crate::specs::Hash::absorbed_words))]
 fn customize(string: &[u8]) -> State
-    requires { length string.now ≤ 256 }
+    requires { length string.now ≤ STRING_LIMIT }
     ensures { result ≡ customized string.now }
 {
     let bits = 8 * string.len() as u64;
@@ -97,8 +103,9 @@ fn customize(string: &[u8]) -> State
 }
 
 /// Ascon-CXOF128: fills `out`; a string of more than 256 bytes is refused, and `out` is as it was.
+#[tactic(auto, using(crate::proofs::HashLaws::cxof_customized))]
 pub fn cxof128(string: &[u8], message: &[u8], out: &mut [u8]) -> Result<(), StringTooLong>
-    ensures test { is_ok result ≡ nat_le (length string.now) 256 }
+    ensures test { is_ok result ≡ nat_le (length string.now) STRING_LIMIT }
     ensures bytes { out.new ≡ (if is_ok result then cxof_of string.now message.now (length out.old) else out.old) }
 {
     if string.len() > STRING_LIMIT {

@@ -29,6 +29,7 @@ const AFTER_KEY_STRING: State = State {
 
 impl Purpose {
     /// The customization string.
+    // No code here calls it: it says after which strings the constants in `start` are the states.
     pub fn string(self) -> &'static [u8]
         ensures { result.now ≡ string_of self }
     {
@@ -39,6 +40,7 @@ impl Purpose {
     }
 
     // The state of Ascon-CXOF128 once that string is absorbed.
+    #[tactic(auto, using(crate::proofs::Customized::after_mark_string, crate::proofs::Customized::after_key_string))]
     fn start(self) -> State
         ensures { result ≡ customized (string_of self) }
     {
@@ -49,6 +51,7 @@ impl Purpose {
     }
 }
 
+#[tactic(auto, using(crate::proofs::HashLaws::keyed_absorbed))]
 fn keyed(purpose: Purpose, key: &[u8; 16], text: &[u8], out: &mut [u8; 16])
     ensures { out.new ≡ keyed_of purpose key.now text.now }
 {
@@ -65,13 +68,16 @@ fn keyed(purpose: Purpose, key: &[u8; 16], text: &[u8], out: &mut [u8; 16])
 
 // `mark` and `derive` name the two uses: they take other arguments, and C calls one of them.
 /// The mark of a text under a key.
-pub fn mark(key: &[u8; 16], text: &[u8], out: &mut [u8; 16])
-    ensures { out.new ≡ keyed_of Mark key.now text.now }
+pub fn mark(key: &[u8; 16], text: &[u8]) -> [u8; 16]
+    ensures { result ≡ keyed_of Mark key.now text.now }
 {
-    keyed(Purpose::Mark, key, text, out)
+    let mut mark = [0; 16];
+    keyed(Purpose::Mark, key, text, &mut mark);
+    mark
 }
 
 // To this crate a role is a byte, as a label is: which roles there are is for the crates above.
+// Into lent memory: a returned key would be a copy on the stack that nobody wipes.
 /// The key derived from a key with a label and a role.
 pub fn derive(key: &[u8; 16], label: u8, role: u8, out: &mut [u8; 16])
     ensures { out.new ≡ keyed_of Key key.now (label ∷ role ∷ []) }

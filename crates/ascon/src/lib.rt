@@ -11,7 +11,7 @@ mod state;
 mod theorems;
 
 pub use aead::{Aead, InvalidTag};
-pub use hash::{StringTooLong, cxof128, hash256};
+pub use hash::{STRING_LIMIT, StringTooLong, cxof128, hash256};
 pub use keyed::{derive, mark};
 pub use purpose::Purpose;
 pub use state::State;

@@ -85,6 +85,7 @@ impl State {
         }
     }
 
+    #[tactic(auto, unfolding(crate::specs::Permutation::round))]
     fn round(self, c: u64) -> State
         ensures { result ≡ rounded c self }
     {
@@ -103,6 +104,7 @@ impl State {
     }
 
     // `p8` and `p12` are the standard's names, so that no caller counts rounds.
+    #[tactic(auto, unfolding(crate::specs::Permutation::p8))]
     pub(crate) fn p8(self) -> State
         ensures { result ≡ permuted8 self }
     {
@@ -110,6 +112,7 @@ impl State {
     }
 
     /// The permutation p[12].
+    #[tactic(auto, unfolding(crate::specs::Permutation::p12))]
     pub fn p12(self) -> State
         ensures { result ≡ permuted12 self }
     {

@@ -25,6 +25,7 @@ pub extern "C" fn ascon_seal(
     *tag = Aead { key, nonce, data }.seal(text);
 }
 
+// The result is a bool, and key, nonce and data are three parameters: C has neither Result nor Aead.
 #[unsafe(no_mangle)]
 pub extern "C" fn ascon_open(
     key: &[u8; 16],
@@ -43,7 +44,7 @@ pub extern "C" fn ascon_open(
 pub extern "C" fn ascon_mark(key: &[u8; 16], text: &[u8], out: &mut [u8; 16])
     ensures { out.new ≡ keyed Mark key.now text.now }
 {
-    ascon::mark(key, text, out)
+    *out = ascon::mark(key, text);
 }
 
 #[unsafe(no_mangle)]

@@ -1,10 +1,10 @@
 -- A text cut at its first space.
-use Rattle.std.proofs.Common.{◌≡◌, ℕ, zero, suc, ◌-◌, ◌<◌, ◌≤◌, Bool, true, false, cond, eqb, ltb, Option, Some, None, unwrap_or, List, [], ◌∷◌, length, get_or, take, drop, sym, refl, ap, ◌∙◌, arith}
-use Rattle.std.proofs.lemmas.List.{take_rest}
+use Rattle.std.proofs.Common.{◌≡◌, ℕ, suc, ◌+◌, ◌-◌, ◌<◌, ◌≤◌, Bool, true, false, cond, eqb, ltb, not, Option, Some, None, unwrap_or, List, [], ◌∷◌, length, get_or, take, drop, sym, refl, ap, ◌∙◌, arith}
+use Rattle.std.proofs.lemmas.List.{nil_from_length, take_rest}
 use Rattle.std.proofs.lemmas.List.Quantifiers.{position-Some}
-use Rattle.std.proofs.lemmas.List.Sums.{fails_before_first}
+use Rattle.std.proofs.lemmas.List.Sums.{fails_before_first, prefix_len-le-length}
 use Rattle.std.specs.List.{position, position_or_len}
-use Rattle.std.proofs.lemmas.Bool.{eq-eqb, eqb-true, eqb-false, ne_eqb, cond-true, cond-false}
+use Rattle.std.proofs.lemmas.Bool.{eqb-true, eqb-false}
 use Rattle.ascon_cli.specs.Words.{lengthened, spaced, words}
 
 -- The first place of a sign.
@@ -22,20 +22,24 @@ position-nowhere t s e k h =
     none_le : (n m : ℕ) → None ≡ cond (ltb n m) (Some n) None → (k : ℕ) → k < m → k < n
     none_le n m e k h = grind arith
 
-words_cut : (t : List ℕ) (e : ℕ) → e ≤ length t → ((k : ℕ) → k < e → get_or t k 0 ≡ 32 → ⊥) → (e < length t → get_or t e 0 ≡ 32) → words t ≡ take e t ∷ spaced (drop e t)
+words_at : (t : List ℕ) → words t ≡ take (position_or_len (λ b. eqb b 32) t) t ∷ spaced (drop (position_or_len (λ b. eqb b 32) t) t)
 unfolding words spaced
-words_cut [] zero h b f = refl
-words_cut [] (suc e) h b f = let z : ⊥ = omega arith in absurd z
-words_cut (x ∷ t) zero h b f = let p : x ≡ 32 = f (omega arith) in cond-true _ _ _ (eq-eqb x 32 p)
-words_cut (x ∷ t) (suc e) h b f =
-    let q = cond-false (eqb x 32) ([] ∷ words t) (lengthened x (words t)) (ne_eqb x 32 (b 0 (omega arith))) in
-    let r = words_cut t e (omega arith) (λ k l. b (suc k) (omega arith)) (λ l. f (omega arith)) in
-    q ∙ ap (lengthened x) r
+words_at [] = refl
+words_at (x ∷ t) = go (eqb x 32) (position_or_len (λ b. eqb b 32) t) (words_at t)
+  where
+    go : (c : Bool) (n : ℕ) → words t ≡ take n t ∷ spaced (drop n t) → cond c ([] ∷ words t) (lengthened x (words t)) ≡ take (cond (not c) (1 + n) 0) (x ∷ t) ∷ spaced (drop (cond (not c) (1 + n) 0) (x ∷ t))
+    go true n h = refl
+    go false n h = let e : 1 + n ≡ suc n = omega arith in rw e (ap (lengthened x) h)
 
 -- The first space ends the first word.
 pub words_split : (t : List ℕ) (o : Option ℕ) → o ≡ position (λ b. eqb b 32) t → words t ≡ take (unwrap_or o (length t)) t ∷ spaced (drop (unwrap_or o (length t)) t)
-words_split t None e = words_cut t (length t) (omega arith) (position-nowhere t 32 e) (λ h. let z : ⊥ = omega arith in absurd z)
-words_split t (Some i) e = let p = position-found t 32 i e in words_cut t i (omega arith) p.2 (λ h. p.1)
+words_split t o e =
+    let n : unwrap_or o (length t) ≡ position_or_len (λ b. eqb b 32) t = cut_at o (position_or_len (λ b. eqb b 32) t) (length t) (prefix_len-le-length _ t) e in
+    words_at t ∙ ap (λ i. take i t ∷ spaced (drop i t)) (sym n)
+  where
+    cut_at : (o : Option ℕ) (n m : ℕ) → n ≤ m → o ≡ cond (ltb n m) (Some n) None → unwrap_or o m ≡ n
+    cut_at None n m h e = grind arith
+    cut_at (Some i) n m h e = grind arith
 
 -- The words after a space.
 pub spaced-words : (r : List ℕ) → 0 < length r → spaced r ≡ words (take (length r - 1) (drop 1 r))
@@ -45,8 +49,7 @@ spaced-words (b ∷ t) h = sym (ap words (take_rest (b ∷ t) 1))
 
 pub spaced_none : (r : List ℕ) → length r ≡ 0 → spaced r ≡ []
 unfolding spaced
-spaced_none [] h = refl
-spaced_none (b ∷ t) h = let z : ⊥ = omega arith in absurd z
+spaced_none r h = ap spaced (nil_from_length r h)
 
 words_some : (t : List ℕ) → 0 < length (words t)
 unfolding words

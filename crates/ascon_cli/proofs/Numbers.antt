@@ -3,10 +3,6 @@ use Rattle.std.proofs.Common.{◌≡◌, ℕ, ◌+◌, ◌*◌, ◌^◌, ◌<◌
 use Rattle.std.proofs.lemmas.List.{at_drop_all, at_drop_more}
 use Rattle.std.proofs.lemmas.Bool.{and_from, cond-true, eqb-false, le-leb}
 use Rattle.std.specs.Char.{digit_value}
-use Rattle.std.specs.Option.{ok_or}
-use Rattle.std.specs.declared.result.Result.{Result}
-use Rattle.std.specs.declared.result.Result.TheVariants.{Ok, Err}
-use Rattle.ascon_cli.specs.declared.fault.LineError.{LineError}
 use Rattle.ascon_cli.specs.Fields.{by, decimal, decimal_digit, output_length, within}
 
 decimal_digit_lem : (w : List ℕ) (i n : ℕ) (o : Option ℕ) → i < length w → o ≡ decimal_digit (get_or w i 0) → decimal n (drop i w) ≡ by o (λ v. decimal (n * 10 + v) (drop (i + 1) w))
@@ -33,15 +29,6 @@ to_decimal b x o e h = digit_is x o h ∙ ap decimal_digit e
 
 pub decimal_below : (b v : ℕ) → Some v ≡ decimal_digit b → v < 10
 decimal_below b v e = search rules
-
--- A value with an error in place of none.
-pub ok_or-Ok : (o : Option ℕ) (v : ℕ) (e : LineError) → ◌≡◌ {A = Result ℕ LineError} (Ok v) (ok_or o e) → Some v ≡ o
-ok_or-Ok None v e h = search rules
-ok_or-Ok (Some w) v e h = search rules
-
-pub ok_or-Err : (o : Option ℕ) (d e : LineError) → ◌≡◌ {A = Result ℕ LineError} (Err d) (ok_or o e) → (None ≡ o) × (d ≡ e)
-ok_or-Err None d e h = ((λ i. None), search rules)
-ok_or-Err (Some w) d e h = search rules
 
 -- A number of few digits is small.
 pub power_more : (i n v : ℕ) → n < 10 ^ i → v < 10 → n * 10 + v < 10 ^ (i + 1)

@@ -1,12 +1,11 @@
 -- What functions report: why a line cannot be read, and what was written.
-use Rattle.std.specs.Prelude.{◌≡◌, ℕ, List, ◌++◌, Ok, Err, vec_items, codes, Result, Vec, OnOk}
+use Rattle.std.specs.Prelude.{◌≡◌, ℕ, List, ◌++◌, Ok, Err, codes, Result, OnOk}
 use Rattle.ascon_cli.specs.declared.fault.LineError.{LineError}
 use Rattle.ascon_cli.specs.declared.fault.LineError.TheVariants.{UnknownCommand, ArgumentCount, NotHexadecimal, KeyLength, StringLength, OutputLength}
 use Rattle.ascon_cli.specs.declared.fault.Fault.{Fault}
 use Rattle.ascon_cli.specs.declared.fault.Fault.TheVariants.{Line, Memory}
 use Rattle.lines.specs.declared.hex.HexError.{HexError}
 use Rattle.lines.specs.declared.hex.HexError.TheVariants.{NotHex}
-use Rattle.std.specs.declared.alloc.Global.{Global}
 
 -- The answer to a line that cannot be read.
 abbrev pub message_of : LineError → List ℕ
@@ -39,5 +38,5 @@ fault_of NotHex = Line NotHexadecimal
 fault_of _ = Memory
 
 -- On success a text has grown by more, and by nothing else.
-abbrev pub Grew : {X Y : Type 0} → Result X Y → Vec ℕ Global → Vec ℕ Global → List ℕ → Type 0
-Grew r before after more = OnOk r (vec_items after ≡ vec_items before ++ more)
+abbrev pub Grew : {X Y : Type 0} → Result X Y → List ℕ → List ℕ → List ℕ → Type 0
+Grew r before after more = OnOk r (after ≡ before ++ more)

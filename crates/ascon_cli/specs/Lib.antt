@@ -1,5 +1,6 @@
 pub mod Words
 pub mod Errors
+pub mod Lending
 pub mod Fields
 pub mod Commands
 pub mod Format

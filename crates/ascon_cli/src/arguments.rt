@@ -6,7 +6,6 @@ ghost use Rattle.ascon_cli.specs.Fields.{argument, output_length};
 
 use crate::fault::{Fault, LineError};
 use crate::secret::Secret;
-use lines::hex;
 use std::alloc::Global;
 
 const LONGEST_NUMBER: usize = 5;
@@ -15,18 +14,17 @@ const LONGEST_OUTPUT: usize = 65536;
 
 /// The bytes of an argument in hexadecimal.
 pub fn bytes(heap: Global, word: &[u8]) -> Result<Secret, Fault>
-    ensures { Agrees (λ s. s.bytes.items) (argument word.now) result }
+    ensures { Agrees (λ s. s) (argument word.now) result }
 {
     match word {
         b"-" => Ok(Secret::new(heap)),
         [] => Err(LineError::NotHexadecimal.into()),
-        _ => Ok(Secret {
-            bytes: hex::decode(heap, word)?,
-        }),
+        _ => Secret::from_digits(heap, word),
     }
 }
 
 /// The length that is asked of an output.
+// Not by `parse`, which takes a `+` and any number of digits: the tests before it would be as long as the loop.
 pub fn output_length(word: &[u8]) -> Result<usize, LineError>
     ensures { result ≡ output_length word.now }
 {

@@ -19,19 +19,27 @@ pub enum LineError {
     OutputLength,
 }
 
-/// The answer to such a line.
+impl LineError {
+    /// The answer to such a line.
+    pub fn message(self) -> &'static str
+        ensures { result.now ≡ message_of self }
+    {
+        match self {
+            LineError::UnknownCommand => "error: unknown command",
+            LineError::ArgumentCount => "error: wrong number of arguments",
+            LineError::NotHexadecimal => "error: not hexadecimal",
+            LineError::KeyLength => "error: key and nonce take 16 bytes",
+            LineError::StringLength => "error: the string takes at most 256 bytes",
+            LineError::OutputLength => "error: the length is a number from 0 to 65536",
+        }
+    }
+}
+
 impl fmt::Display for LineError {
     ghost output = { λ e. Some (message_of e) };
 
     fn fmt<W: fmt::Write>(&self, f: &mut fmt::Formatter<W>) -> fmt::Result {
-        match self {
-            LineError::UnknownCommand => f.write_str("error: unknown command"),
-            LineError::ArgumentCount => f.write_str("error: wrong number of arguments"),
-            LineError::NotHexadecimal => f.write_str("error: not hexadecimal"),
-            LineError::KeyLength => f.write_str("error: key and nonce take 16 bytes"),
-            LineError::StringLength => f.write_str("error: the string takes at most 256 bytes"),
-            LineError::OutputLength => f.write_str("error: the length is a number from 0 to 65536"),
-        }
+        f.write_str(self.message())
     }
 }
 

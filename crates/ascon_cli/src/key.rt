@@ -1,27 +1,31 @@
 //! Arguments of a bounded size.
 // Two types: a key is lent as an array and a label as a slice, and each has an error of its own.
 
-ghost use Rattle.std.specs.Prelude.{◌≡◌, ◌≤◌, length, vec_len};
+ghost use Rattle.std.specs.Prelude.{◌≡◌, ◌≤◌, length};
 ghost use Rattle.ascon_cli.specs.Errors.{Gives};
 ghost use Rattle.ascon_cli.specs.Fields.{short, sized};
+ghost use Rattle.ascon_cli.specs.declared.key.TheConstants.{LONGEST_LABEL};
 
 use crate::fault::LineError;
 use crate::secret::Secret;
+
+/// The most bytes that a label has.
+pub const LONGEST_LABEL: usize = 256;
 
 /// A key or a nonce: sixteen bytes.
 #[derive(Drop)]
 pub struct Key {
     secret: Secret,
-    ghost fits: { vec_len secret.bytes ≡ 16 },
+    ghost fits: { length secret ≡ 16 },
 }
 
 impl TryFrom<Secret> for Key {
     type Error = LineError;
 
-    ghost try_from_gives = { λ s r. Gives (λ k. k.secret.bytes.items) (sized s.bytes.items) r };
+    ghost try_from_gives = { λ s r. Gives (λ k. k.secret) (sized s) r };
 
     fn try_from(secret: Secret) -> Result<Key, LineError> {
-        if secret.bytes.len() == 16 {
+        if secret.len() == 16 {
             return Ok(Key { secret });
         }
         Err(LineError::KeyLength)
@@ -29,10 +33,11 @@ impl TryFrom<Secret> for Key {
 }
 
 impl Key {
+    /// The sixteen bytes.
     pub fn as_array(&self) -> &[u8; 16]
-        ensures { result.now ≡ self.now.secret.bytes.items }
+        ensures { result.now ≡ self.now.secret }
     {
-        self.secret.bytes.as_slice().first_chunk().unwrap()
+        self.secret.as_slice().first_chunk().unwrap()
     }
 }
 
@@ -40,16 +45,16 @@ impl Key {
 #[derive(Drop)]
 pub struct Label {
     secret: Secret,
-    ghost fits: { vec_len secret.bytes ≤ 256 },
+    ghost fits: { length secret ≤ LONGEST_LABEL },
 }
 
 impl TryFrom<Secret> for Label {
     type Error = LineError;
 
-    ghost try_from_gives = { λ s r. Gives (λ l. l.secret.bytes.items) (short s.bytes.items) r };
+    ghost try_from_gives = { λ s r. Gives (λ l. l.secret) (short s) r };
 
     fn try_from(secret: Secret) -> Result<Label, LineError> {
-        if secret.bytes.len() <= 256 {
+        if secret.len() <= LONGEST_LABEL {
             return Ok(Label { secret });
         }
         Err(LineError::StringLength)
@@ -57,10 +62,11 @@ impl TryFrom<Secret> for Label {
 }
 
 impl Label {
+    /// The bytes of the string.
     pub fn as_slice(&self) -> &[u8]
-        ensures value { result.now ≡ self.now.secret.bytes.items }
-        ensures bound { length result.now ≤ 256 }
+        ensures value { result.now ≡ self.now.secret }
+        ensures bound { length result.now ≤ LONGEST_LABEL }
     {
-        self.secret.bytes.as_slice()
+        self.secret.as_slice()
     }
 }

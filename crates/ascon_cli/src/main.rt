@@ -1,7 +1,7 @@
 //! Seals, opens and hashes what the lines on standard input ask for, each answered by a line.
 #![tactic(auto)]
 
-ghost use Rattle.std.specs.Prelude.{◌≤◌, IfOk, vec_len};
+ghost use Rattle.std.specs.Prelude.{◌≤◌, length, IfOk};
 
 mod arguments;
 mod fault;
@@ -15,14 +15,14 @@ mod split;
 use responder::Responder;
 use secret::Secret;
 use std::io;
-use std::io::{Read, Write};
+use std::io::{Print, Read};
 use std::process::ExitCode;
 
 /// How much is read at once, and about how much is written at once.
 const BUFFER: usize = 65536;
 
 fn main(rt: HostRuntime) -> ExitCode {
-    match run(&rt) {
+    match run(&rt, &mut rt.stdin()) {
         Ok(()) => ExitCode::SUCCESS,
         Err(error) => {
             let _ = eprintln!(rt; "ascon: {error}");
@@ -32,40 +32,44 @@ fn main(rt: HostRuntime) -> ExitCode {
 }
 
 // What was answered before a failure is written all the same.
-fn run(rt: &HostRuntime) -> io::Result<()> {
+fn run<R: Print + AllocGlobal>(rt: &R, input: &mut impl Read) -> io::Result<()> {
     let mut responder = Responder::new(rt.alloc());
-    let result = answer_input(rt, &mut responder);
+    let result = answer_input(rt, input, &mut responder);
     write_out(rt, &mut responder.out)?;
     result
 }
 
-fn answer_input(rt: &HostRuntime, responder: &mut Responder) -> io::Result<()> {
-    let mut input = Secret::zeros(rt.alloc(), BUFFER)?;
+fn answer_input<R: Print + AllocGlobal>(
+    rt: &R,
+    input: &mut impl Read,
+    responder: &mut Responder,
+) -> io::Result<()> {
+    let mut buffer = Secret::zeros(rt.alloc(), BUFFER)?;
     // `loop` has no number that shows its end, so the reads are counted.
     for _ in 0..u64::MAX {
-        let count = read_some(rt, &mut input)?;
+        let count = read_some(input, &mut buffer)?;
         if count == 0 {
             break;
         }
-        answer_all(rt, &input.bytes[..count], responder)?;
+        answer_all(rt, &buffer.as_slice()[..count], responder)?;
     }
     responder.take_last()?;
     Ok(())
 }
 
-fn read_some(rt: &HostRuntime, input: &mut Secret) -> io::Result<usize>
-    ensures { IfOk result (λ n. n ≤ vec_len input.new.bytes) }
+fn read_some(input: &mut impl Read, buffer: &mut Secret) -> io::Result<usize>
+    ensures { IfOk result (λ n. n ≤ length buffer.new) }
 {
-    rt.stdin().read(input.bytes.as_mut_slice())
+    input.read(buffer.as_mut_slice())
 }
 
 // Answers the lines that end in `input`, and writes the answers out as they grow many.
-fn answer_all(rt: &HostRuntime, input: &[u8], responder: &mut Responder) -> io::Result<()> {
+fn answer_all(rt: &impl Print, input: &[u8], responder: &mut Responder) -> io::Result<()> {
     let mut rest = input;
     while !rest.is_empty() {
         let taken = responder.take_line(rest)?;
         rest = &rest[taken..];
-        if responder.out.bytes.len() >= BUFFER {
+        if responder.out.len() >= BUFFER {
             write_out(rt, &mut responder.out)?;
         }
     }
@@ -73,8 +77,8 @@ fn answer_all(rt: &HostRuntime, input: &[u8], responder: &mut Responder) -> io::
 }
 
 // Nothing is kept if it cannot be written, so that nothing is written twice.
-fn write_out(rt: &HostRuntime, out: &mut Secret) -> io::Result<()> {
-    let result = rt.stdout().write_all(out.bytes.as_slice());
+fn write_out(rt: &impl Print, out: &mut Secret) -> io::Result<()> {
+    let result = rt.write_all(out.as_slice());
     out.clear();
     result
 }

@@ -3,7 +3,7 @@
 ghost use Rattle.std.specs.Prelude.{◌≡◌, Some, None, MatchOption};
 ghost use Rattle.ascon_cli.specs.Errors.{Grew};
 ghost use Rattle.ascon_cli.specs.Format.{result_of, shown, unsealed};
-ghost use Rattle.ascon_cli.specs.Views.{asked_of, held, output_of, parts_of};
+ghost use Rattle.ascon_cli.specs.Views.{asked_of, output_of, parts_of};
 ghost use Rattle.ascon_cli.specs.Format.{hashing, opening, sealing};
 
 use crate::request::{Output, Packet, Request};
@@ -12,7 +12,7 @@ use std::alloc::AllocError;
 
 /// Adds the result of `request` to `out`.
 pub fn perform(request: Request, out: &mut Secret) -> Result<(), AllocError>
-    ensures { Grew result out.old.bytes out.new.bytes (result_of (asked_of request)) }
+    ensures { Grew result out.old out.new (result_of (asked_of request)) }
 {
     match request {
         Request::Seal(packet) => seal(packet, out),
@@ -23,59 +23,58 @@ pub fn perform(request: Request, out: &mut Secret) -> Result<(), AllocError>
 }
 
 fn seal(packet: Packet, out: &mut Secret) -> Result<(), AllocError>
-    ensures { Grew result out.old.bytes out.new.bytes (result_of (sealing (parts_of packet))) }
+    ensures { Grew result out.old out.new (result_of (sealing (parts_of packet))) }
 {
     let Packet { context, mut text } = packet;
-    let tag = context.aead().seal(text.bytes.as_mut_slice());
-    out.extend_in_digits(text.bytes.as_slice())?;
+    let tag = context.aead().seal(text.as_mut_slice());
+    out.extend_in_digits(text.as_slice())?;
     out.extend_in_digits(&tag)
 }
 
 fn open(packet: Packet, out: &mut Secret) -> Result<(), AllocError>
-    ensures { Grew result out.old.bytes out.new.bytes (result_of (opening (parts_of packet))) }
+    ensures { Grew result out.old out.new (result_of (opening (parts_of packet))) }
 {
     match unseal(packet) {
-        Some(text) => show(text.bytes.as_slice(), out),
+        Some(text) => show(text.as_slice(), out),
         None => out.extend(b"refused"),
     }
 }
 
 // The text that was sealed, if the last 16 bytes are its tag.
 fn unseal(packet: Packet) -> Option<Secret>
-    ensures { MatchOption result (unsealed (parts_of packet) ≡ None) (λ s. unsealed (parts_of packet) ≡ Some (held s)) }
+    ensures { MatchOption result (unsealed (parts_of packet) ≡ None) (λ s. unsealed (parts_of packet) ≡ Some s) }
 {
     let Packet { context, mut text } = packet;
-    let (sealed, tag) = text.bytes.as_slice().split_last_chunk::<16>()?;
+    let (sealed, tag) = text.as_slice().split_last_chunk::<16>()?;
     let (length, tag) = (sealed.len(), *tag);
     text.truncate(length);
-    context.aead().open(text.bytes.as_mut_slice(), &tag).ok()?;
+    context.aead().open(text.as_mut_slice(), &tag).ok()?;
     Some(text)
 }
 
 fn hash(text: Secret, out: &mut Secret) -> Result<(), AllocError>
-    ensures { Grew result out.old.bytes out.new.bytes (result_of (hashing (held text))) }
+    ensures { Grew result out.old out.new (result_of (hashing text)) }
 {
-    let mut digest = [0; 32];
-    ascon::hash256(text.bytes.as_slice(), &mut digest);
+    let digest = ascon::hash256(text.as_slice());
     out.extend_in_digits(&digest)
 }
 
 fn xof(output: Output, out: &mut Secret) -> Result<(), AllocError>
-    ensures { Grew result out.old.bytes out.new.bytes (result_of (output_of output)) }
+    ensures { Grew result out.old out.new (result_of (output_of output)) }
 {
     let mut squeezed = Secret::zeros(out.heap(), output.length)?;
     ascon::cxof128(
         output.label.as_slice(),
-        output.text.bytes.as_slice(),
-        squeezed.bytes.as_mut_slice(),
+        output.text.as_slice(),
+        squeezed.as_mut_slice(),
     )
     .unwrap();
-    show(squeezed.bytes.as_slice(), out)
+    show(squeezed.as_slice(), out)
 }
 
 // Adds the digits of `bytes`, or a dash if there are none.
 fn show(bytes: &[u8], out: &mut Secret) -> Result<(), AllocError>
-    ensures { Grew result out.old.bytes out.new.bytes (shown bytes.now) }
+    ensures { Grew result out.old out.new (shown bytes.now) }
 {
     if bytes.is_empty() {
         return out.extend(b"-");

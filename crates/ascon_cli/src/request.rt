@@ -3,7 +3,7 @@
 ghost use Rattle.ascon_cli.specs.Commands.{command_of};
 ghost use Rattle.ascon_cli.specs.Errors.{Agrees};
 ghost use Rattle.ascon_cli.specs.Format.{message, output, parts, request};
-ghost use Rattle.ascon_cli.specs.Views.{asked_of, held, output_of, parts_of};
+ghost use Rattle.ascon_cli.specs.Views.{asked_of, output_of, parts_of};
 ghost use Rattle.ascon_cli.specs.Words.{spaced};
 ghost use Rattle.ascon_cli.specs.declared.fault.LineError.TheVariants.{UnknownCommand};
 ghost use Rattle.std.specs.Option.{ok_or};
@@ -25,15 +25,16 @@ pub struct Context {
 }
 
 impl Context {
+    /// The cipher under this key and nonce, with this data.
     pub fn aead(&self) -> Aead<'_>
-        ensures key { result.key.now ≡ held self.now.key.secret }
-        ensures nonce { result.nonce.now ≡ held self.now.nonce.secret }
-        ensures associated { result.«data».now ≡ held self.now.associated }
+        ensures key { result.key.now ≡ self.now.key.secret }
+        ensures nonce { result.nonce.now ≡ self.now.nonce.secret }
+        ensures associated { result.«data».now ≡ self.now.associated }
     {
         Aead {
             key: self.key.as_array(),
             nonce: self.nonce.as_array(),
-            data: self.associated.bytes.as_slice(),
+            data: self.associated.as_slice(),
         }
     }
 }
@@ -62,6 +63,8 @@ pub enum Request {
     Xof(Output),
 }
 
+/// What a line's first word names.
+// Apart from `Request`, since the definition `command_of` speaks of it: a command stands before its arguments are read.
 #[derive(Clone, Copy, PartialEq, Eq, Debug)]
 pub enum Command {
     Seal,
@@ -100,6 +103,7 @@ pub fn read_request(heap: Global, line: &[u8]) -> Result<Request, Fault>
 }
 
 // All arguments are counted before one is read, and read before their sizes are looked at.
+// The heap and the rest stay apart: words are taken without the heap and read without the rest, so a struct of both would be opened at each step.
 fn read_packet(heap: Global, rest: &[u8]) -> Result<Packet, Fault>
     ensures { Agrees parts_of (parts (spaced rest.now)) result }
 {
@@ -120,7 +124,7 @@ fn read_packet(heap: Global, rest: &[u8]) -> Result<Packet, Fault>
 }
 
 fn read_message(heap: Global, rest: &[u8]) -> Result<Secret, Fault>
-    ensures { Agrees held (message (spaced rest.now)) result }
+    ensures { Agrees (λ s. s) (message (spaced rest.now)) result }
 {
     arguments::bytes(heap, split::only_word(rest)?)
 }

@@ -3,7 +3,6 @@
 ghost use Rattle.std.specs.Prelude.{◌≡◌, ◌<◌, ◌≤◌, [], ◌∷◌, ◌++◌, length, take, IfOk};
 ghost use Rattle.ascon_cli.specs.Errors.{Grew};
 ghost use Rattle.ascon_cli.specs.Format.{reply};
-ghost use Rattle.ascon_cli.specs.Views.{line_of, out_of};
 ghost use Rattle.ascon_cli.specs.Stream.{last_reply, pending, replies, CutsDoNotMatter, LineByLine};
 
 use crate::fault::Fault;
@@ -23,8 +22,8 @@ pub struct Responder {
 impl Responder {
     /// Nothing read, and nothing to write.
     pub fn new(heap: Global) -> Responder
-        ensures line { line_of result ≡ [] }
-        ensures out { out_of result ≡ [] }
+        ensures line { result.line ≡ [] }
+        ensures out { result.out ≡ [] }
     {
         Responder {
             line: Secret::new(heap),
@@ -38,8 +37,8 @@ impl Responder {
     #[tactic(auto, using(crate::proofs::Flow::theorems))]
     pub fn take_line(&mut self, input: &[u8]) -> Result<usize, AllocError>
         ensures bound { IfOk result (λ n. (n ≤ length input.now) × (0 < length input.now → 0 < n)) }
-        ensures text { IfOk result (λ n. out_of self.new ≡ out_of self.old ++ replies (line_of self.old) (take n input.now)) }
-        ensures rest { IfOk result (λ n. line_of self.new ≡ pending (line_of self.old) (take n input.now)) }
+        ensures text { IfOk result (λ n. self.new.out ≡ self.old.out ++ replies self.old.line (take n input.now)) }
+        ensures rest { IfOk result (λ n. self.new.line ≡ pending self.old.line (take n input.now)) }
         ensures cuts { CutsDoNotMatter }
         ensures lines { LineByLine }
     {
@@ -54,10 +53,10 @@ impl Responder {
 
     /// Answers a last line that no newline ended, and has none then.
     pub fn take_last(&mut self) -> Result<(), AllocError>
-        ensures text { Grew result self.old.out.bytes self.new.out.bytes (last_reply (line_of self.old)) }
-        ensures rest { line_of self.new ≡ [] }
+        ensures text { Grew result self.old.out self.new.out (last_reply self.old.line) }
+        ensures rest { self.new.line ≡ [] }
     {
-        if self.line.bytes.is_empty() {
+        if self.line.is_empty() {
             return Ok(());
         }
         self.answer_line()
@@ -66,10 +65,10 @@ impl Responder {
     // Answers the line, and begins another.
     // For want of memory `out` keeps its whole answers, and no part of another.
     fn answer_line(&mut self) -> Result<(), AllocError>
-        ensures text { Grew result self.old.out.bytes self.new.out.bytes (reply (line_of self.old) ++ 10 ∷ []) }
-        ensures rest { line_of self.new ≡ [] }
+        ensures text { Grew result self.old.out self.new.out (reply self.old.line ++ 10 ∷ []) }
+        ensures rest { self.new.line ≡ [] }
     {
-        let whole = self.out.bytes.len();
+        let whole = self.out.len();
         let result = self.answer_and_end();
         self.line.clear();
         if result.is_err() {
@@ -79,7 +78,7 @@ impl Responder {
     }
 
     fn answer_and_end(&mut self) -> Result<(), AllocError>
-        ensures { Grew result self.old.out.bytes self.new.out.bytes (reply (line_of self.old) ++ 10 ∷ []) }
+        ensures { Grew result self.old.out self.new.out (reply self.old.line ++ 10 ∷ []) }
     {
         self.answer()?;
         self.out.extend(b"\n")
@@ -89,12 +88,11 @@ impl Responder {
     // The program goes on after a line that cannot be read, and not for want of memory.
     #[tactic(auto, unfolding(crate::specs::Format::reply))]
     fn answer(&mut self) -> Result<(), AllocError>
-        ensures { Grew result self.old.out.bytes self.new.out.bytes (reply (line_of self.old)) }
+        ensures { Grew result self.old.out self.new.out (reply self.old.line) }
     {
-        let heap = self.out.heap();
-        match read_request(heap, self.line.bytes.as_slice()) {
+        match read_request(self.out.heap(), self.line.as_slice()) {
             Ok(request) => perform(request, &mut self.out),
-            Err(Fault::Line(error)) => self.out.extend(error.to_string(heap)?.as_bytes()),
+            Err(Fault::Line(error)) => self.out.extend(error.message().as_bytes()),
             Err(Fault::Memory) => Err(AllocError),
         }
     }

@@ -1,30 +1,54 @@
 //! Bytes that leave no trace.
 
-ghost use Rattle.std.specs.Prelude.{◌≡◌, [], ◌++◌, is_ok, if◌then◌else◌, replicate, take, IfOk};
-ghost use Rattle.lines.specs.Hex.{encoded};
-ghost use Rattle.std.specs.Vec.{vec_allocator};
+ghost use Rattle.std.specs.Prelude.{◌≡◌, [], ◌++◌, is_ok, if◌then◌else◌, length, replicate, take, ◌==◌, IfOk};
+ghost use Rattle.lines.specs.Hex.{decoded, encoded};
+ghost use Rattle.ascon_cli.specs.Errors.{Agrees};
+ghost use Rattle.ascon_cli.specs.declared.fault.LineError.TheVariants.{NotHexadecimal};
+ghost use Rattle.std.specs.Borrow.{sem};
+ghost use Rattle.std.specs.Option.{ok_or};
 
+use crate::fault::Fault;
 use lines::hex;
 use std::alloc::{AllocError, Global};
+use std::marker::Model;
 
 /// Bytes on the heap, wiped before their memory is given back.
 pub struct Secret {
-    pub bytes: Vec<u8>,
+    bytes: Vec<u8>,
+}
+
+impl Model for Secret {
+    ghost use Rattle.std.specs.Prelude.{ℕ, List};
+
+    ghost Value = { List ℕ };
+
+    ghost view = { λ s. s.bytes.items };
 }
 
 impl Secret {
+    ghost use Rattle.ascon_cli.specs.Lending.{LendsBytes};
+
     /// No bytes.
     pub fn new(heap: Global) -> Secret
-        ensures { result.bytes.items ≡ [] }
+        ensures { result ≡ [] }
     {
         Secret {
             bytes: Vec::new(heap),
         }
     }
 
+    /// The bytes that `digits` stand for.
+    pub fn from_digits(heap: Global, digits: &[u8]) -> Result<Secret, Fault>
+        ensures { Agrees (λ s. s) (ok_or (decoded digits.now) NotHexadecimal) result }
+    {
+        Ok(Secret {
+            bytes: hex::decode(heap, digits)?,
+        })
+    }
+
     /// As many noughts as `length` says.
     pub fn zeros(heap: Global, length: usize) -> Result<Secret, AllocError>
-        ensures { IfOk result (λ s. s.bytes.items ≡ replicate length 0) }
+        ensures { IfOk result (λ s. s ≡ replicate length 0) }
     {
         Ok(Secret {
             bytes: vec![in heap; 0; length]?,
@@ -32,15 +56,42 @@ impl Secret {
     }
 
     /// Where the memory comes from.
-    pub fn heap(&self) -> Global
-        ensures { result ≡ vec_allocator self.now.bytes }
-    {
+    pub fn heap(&self) -> Global {
         *self.bytes.allocator()
+    }
+
+    /// The bytes.
+    pub fn as_slice(&self) -> &[u8]
+        ensures { result.now ≡ self.now }
+    {
+        self.bytes.as_slice()
+    }
+
+    /// The bytes, to be written over: none is added, so no copy is left behind.
+    pub fn as_mut_slice(&mut self) -> &mut [u8]
+        ensures* writes_back { sem 𝓛 (LendsBytes self.entry result) }
+        ensures value { result.now ≡ self.old }
+    {
+        self.bytes.as_mut_slice()
+    }
+
+    /// How many bytes there are.
+    pub fn len(&self) -> usize
+        ensures { result ≡ length self.now }
+    {
+        self.bytes.len()
+    }
+
+    /// Whether there is no byte.
+    pub fn is_empty(&self) -> bool
+        ensures { result ≡ (length self.now == 0) }
+    {
+        self.bytes.is_empty()
     }
 
     // A `Vec` that grows would leave its old bytes behind: they are moved here, and wiped.
     fn reserve(&mut self, more: usize) -> Result<(), AllocError>
-        ensures { self.new.bytes.items ≡ self.old.bytes.items }
+        ensures { self.new ≡ self.old }
     {
         let length = self.bytes.len().saturating_add(more);
         if length > self.bytes.capacity() {
@@ -54,7 +105,7 @@ impl Secret {
 
     /// Adds `more`, or nothing if there is no memory for it.
     pub fn extend(&mut self, more: &[u8]) -> Result<(), AllocError>
-        ensures { self.new.bytes.items ≡ (if is_ok result then self.old.bytes.items ++ more.now else self.old.bytes.items) }
+        ensures { self.new ≡ (if is_ok result then self.old ++ more.now else self.old) }
     {
         self.reserve(more.len())?;
         self.bytes.extend_from_slice(more)
@@ -62,7 +113,7 @@ impl Secret {
 
     /// Adds the digits of `more`, or nothing if there is no memory for them.
     pub fn extend_in_digits(&mut self, more: &[u8]) -> Result<(), AllocError>
-        ensures { self.new.bytes.items ≡ (if is_ok result then self.old.bytes.items ++ encoded more.now else self.old.bytes.items) }
+        ensures { self.new ≡ (if is_ok result then self.old ++ encoded more.now else self.old) }
     {
         self.reserve(more.len().saturating_mul(2))?;
         hex::encode_onto(more, &mut self.bytes)
@@ -70,7 +121,7 @@ impl Secret {
 
     /// Wipes all but the first `length` bytes, and has only these then.
     pub fn truncate(&mut self, length: usize)
-        ensures { self.new.bytes.items ≡ take length self.old.bytes.items }
+        ensures { self.new ≡ take length self.old }
     {
         if length < self.bytes.len() {
             self.bytes[length..].fill(0);
@@ -80,7 +131,7 @@ impl Secret {
 
     /// Wipes the bytes, and has none then.
     pub fn clear(&mut self)
-        ensures { self.new.bytes.items ≡ [] }
+        ensures { self.new ≡ [] }
     {
         self.truncate(0);
     }

@@ -22,6 +22,7 @@ pub fn split_word(text: &[u8]) -> (&[u8], &[u8])
 
 /// The first of the words that `rest` has, each after a space, and what follows it.
 // One by one, since the check writes no proof yet of an array of references whose length is a parameter.
+// By hand: std's `split` would take its closure, and a `requires` of what that computes, through each reader.
 pub fn next_word(rest: &[u8]) -> Result<(&[u8], &[u8]), LineError>
     ensures { MatchResult result (λ p. spaced rest.now ≡ p.0.now ∷ spaced p.1.now) (λ e. (e ≡ ArgumentCount) × (spaced rest.now ≡ [])) }
 {

@@ -1,6 +1,7 @@
 -- The steps of decoding and encoding, and that decoding reads back what was encoded.
 use Rattle.std.proofs.Common.{◌≡◌, ℕ, zero, suc, ◌+◌, ◌*◌, ◌/◌, ◌%◌, ◌<◌, ◌≤◌, List, [], ◌∷◌, ◌++◌, map, length, get_or, drop, Some, None, Option, sym, refl, ap, ◌∙◌, append_assoc, arith, rules}
 use Rattle.std.proofs.lemmas.List.{at_drop_all, at_drop_more}
+use Rattle.std.proofs.lemmas.Option.{none-some}
 use Rattle.std.specs.Simd.{first_chunks}
 use Rattle.lines.specs.Hex.{byte, digit, decoded, encoded, following, onto, sign, small, ReadsBack, WritesBack}
 
@@ -54,7 +55,7 @@ decoded_end ps i h = at_drop_all decoded_pairs ps i h
 
 pub following_none : (bs : List ℕ) (o : Option (List ℕ)) → following bs o ≡ None → o ≡ None
 following_none bs None e = refl
-following_none bs (Some cs) e = let z : ◌≡◌ {A = ℕ} 0 1 = cc in let y : ⊥ = omega arith in absurd y
+following_none bs (Some cs) e = absurd (none-some _ (sym e))
 
 -- One byte's digits.
 pub encoded-step : (bs : List ℕ) (i : ℕ) → i < length bs → encoded (drop i bs) ≡ sign (get_or bs i 0 / 16) ∷ sign (get_or bs i 0 % 16) ∷ encoded (drop (i + 1) bs)
@@ -90,9 +91,6 @@ reads_back (b ∷ bs) h =
     let r = reads_back bs h.1 in
     rw (p, q, r, e) refl
 
-never : {A : Type 0} (x : A) (P : Type 0) → ◌≡◌ {A = Option A} None (Some x) → P
-never x P e = let z : ◌≡◌ {A = ℕ} 0 1 = cc in let y : ⊥ = omega arith in absurd y
-
 digit_below : (b v : ℕ) → digit b ≡ Some v → v < 16
 digit_below b v e = search rules
 
@@ -101,9 +99,9 @@ sign-digit b v e = search rules
 
 write_pair : (h l : ℕ) (ds bs : List ℕ) (oh ol : Option ℕ) (od : Option (List ℕ)) → digit h ≡ oh → digit l ≡ ol → ((cs : List ℕ) → od ≡ Some cs → encoded cs ≡ map small ds) → onto (byte oh ol) od ≡ Some bs → encoded bs ≡ small h ∷ small l ∷ map small ds
 unfolding encoded
-write_pair h l ds bs None ol od eh el ih e = never bs _ e
-write_pair h l ds bs (Some v) None od eh el ih e = never bs _ e
-write_pair h l ds bs (Some v) (Some w) None eh el ih e = never bs _ e
+write_pair h l ds bs None ol od eh el ih e = absurd (none-some bs e)
+write_pair h l ds bs (Some v) None od eh el ih e = absurd (none-some bs e)
+write_pair h l ds bs (Some v) (Some w) None eh el ih e = absurd (none-some bs e)
 write_pair h l ds bs (Some v) (Some w) (Some cs) eh el ih e =
     let bv = digit_below h v eh in
     let bw = digit_below l w el in
@@ -119,7 +117,7 @@ write_pair h l ds bs (Some v) (Some w) (Some cs) eh el ih e =
 pub writes_back : WritesBack
 unfolding decoded encoded
 writes_back [] bs e = let q : bs ≡ [] = cc in ap encoded q
-writes_back (h ∷ []) bs e = never bs _ e
+writes_back (h ∷ []) bs e = absurd (none-some bs e)
 writes_back (h ∷ l ∷ ds) bs e = write_pair h l ds bs (digit h) (digit l) (decoded ds) refl refl (λ cs f. writes_back ds cs f) e
 
 -- Both theorems, for the check to find.

@@ -1,4 +1,5 @@
 //! Hexadecimal: two digits for a byte, the high half first.
+// Not the kit's crate `hex`: what was read before a bad sign is wiped here, and no further crate is trusted.
 
 ghost use Rattle.std.specs.Prelude.{◌≡◌, ◌+◌, ◌*◌, ◌/◌, ◌<◌, ◌≤◌, ◌++◌, length, is_ok, if◌then◌else◌, Some, None, MatchOption, vec_len, vec_capacity};
 ghost use Rattle.lines.specs.Hex.{byte, digit, decoded, encoded, following, sign, ReadsBack, WritesBack};
@@ -82,9 +83,7 @@ pub fn encode_onto(bytes: &[u8], text: &mut Vec<u8>) -> Result<(), AllocError>
     ensures reads_back { ReadsBack }
     ensures writes_back { WritesBack }
 {
-    let Some(count) = bytes.len().checked_mul(2) else {
-        return Err(AllocError);
-    };
+    let count = bytes.len().checked_mul(2).ok_or(AllocError)?;
     text.reserve(count)?;
     for byte in bytes {
         text.push_reserved(digit_sign(*byte / 16));

@@ -1,4 +1,4 @@
-//! Text that programs read and write by the line.
+//! Hexadecimal, as programs read and write it in their lines.
 #![tactic(auto)]
 
 pub mod hex;

@@ -1,5 +1,5 @@
 use Rattle.std.proofs.Common.{refl, ◌∙◌, arith, ltb-false, ltb-true, eqb-true}
-use borrow.Author.Tests.{eqb-false}
+use Rattle.std.proofs.lemmas.Bool.{eqb-false}
 use Rattle.ascon_cli.proofs.Cuts.{spaced_none, spaced-words}
 use Rattle.ascon_cli.proofs.split.next_word.Goals as goal
 
