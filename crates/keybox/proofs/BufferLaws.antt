@@ -3,6 +3,7 @@ use Rattle.std.proofs.Common.{◌≡◌, ℕ, zero, suc, ◌+◌, ◌≤◌, Lis
 use Rattle.std.proofs.lemmas.List.{length-append, length-take-le}
 use Rattle.keys.specs.Padded.{padded}
 use Rattle.keys.proofs.PaddedLaws.{take-padded}
+use Rattle.keybox.specs.declared.buffer.TheConstants.{BLOB_LIMIT}
 
 -- n bytes in all
 length-padded : (n : ℕ) (bs : List ℕ) → length (padded n bs) ≡ n
@@ -28,11 +29,11 @@ put_behind zero (b ∷ bs) part h = let z : ⊥ = omega arith in absurd z
 put_behind (suc n) (b ∷ bs) part h = ap (λ (xs : List ℕ). b ∷ xs) (put_behind n bs part (omega arith))
 
 -- what a buffer of n bytes keeps, when k bytes behind them are written over
-pub kept_more : (n k : ℕ) (bs part : List ℕ) → k ≡ length part → n + length part ≤ 1052 → n ≤ 1052 → bs ≡ padded 1052 (take n bs)
-    → take n bs ++ (part ++ drop k (drop n bs)) ≡ padded 1052 (take (n + length part) (take n bs ++ (part ++ drop k (drop n bs))))
+pub kept_more : (n k : ℕ) (bs part : List ℕ) → k ≡ length part → n + length part ≤ BLOB_LIMIT → n ≤ BLOB_LIMIT → bs ≡ padded BLOB_LIMIT (take n bs)
+    → take n bs ++ (part ++ drop k (drop n bs)) ≡ padded BLOB_LIMIT (take (n + length part) (take n bs ++ (part ++ drop k (drop n bs))))
 kept_more n k bs part e h f clear =
-    let size : length (take n bs) ≡ n = length-take-le n bs (omega (arith, ap length clear, length-padded 1052 (take n bs))) in
-    let fits : length (take n bs) + length part ≤ 1052 = omega (arith, size, h) in
+    let size : length (take n bs) ≡ n = length-take-le n bs (omega (arith, ap length clear, length-padded BLOB_LIMIT (take n bs))) in
+    let fits : length (take n bs) + length part ≤ BLOB_LIMIT = omega (arith, size, h) in
     let whole : length (take n bs ++ part) ≡ n + length part = simp length-append (omega (arith, size)) in
-    let cut = take-padded 1052 (take n bs ++ part) (simp length-append fits) in
-    cc (put_behind 1052 (take n bs) part fits)
+    let cut = take-padded BLOB_LIMIT (take n bs ++ part) (simp length-append fits) in
+    cc (put_behind BLOB_LIMIT (take n bs) part fits)

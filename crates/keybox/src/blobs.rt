@@ -1,9 +1,9 @@
-//! Commands that give blobs, texts and marks.
+//! Commands that give blobs, texts and marks. A blob or a text goes to the caller's `Buffer`: one
+//! that is a result would be copied, and leave an opened text in memory that nobody wipes.
 
 ghost use Rattle.std.specs.Prelude.{◌≡◌, [], OnErr};
 ghost use Rattle.keys.specs.Machine.{does, Wrap as to_wrap, Seal as to_seal, Open as to_open, Mark as to_mark};
 ghost use Rattle.keys.specs.Replies.{mark_answer, value_answer};
-ghost use Rattle.keys.specs.Tables.{state_of};
 
 use crate::buffer::Buffer;
 use crate::cipher::Cipher;
@@ -22,16 +22,15 @@ impl Device {
         under: u8,
         out: &mut Buffer,
     ) -> Result<(), Refusal>
-        ensures does { does (C.alg cipher.now) (to_wrap at under) (state_of self.old.table) ≡ record { box = state_of self.new.table; answer = value_answer result out.new } }
+        ensures does { does (C.alg cipher.now) (to_wrap at under) self.old ≡ record { box = self.new; answer = value_answer result out.new } }
         ensures wiped { OnErr result (out.new ≡ []) }
     {
         out.clear();
         let slot = self.table.places.find(at)?;
-        let wrapper = self.table.places.find(under)?;
-        wrapper.tag.in_role(Role::Wrapper)?;
+        let wrapper = self.table.places.find_in_role(under, Role::Wrapper)?;
         slot.tag.leaves_under(wrapper.tag)?;
         let stamp = self.table.counts.next_stamp()?;
-        cipher.wrap(wrapper.key, stamp, slot, out);
+        cipher.wrap(wrapper.key, stamp.spend(), slot, out);
         Ok(())
     }
 
@@ -43,14 +42,13 @@ impl Device {
         text: Text<'_>,
         out: &mut Buffer,
     ) -> Result<(), Refusal>
-        ensures does { does (C.alg cipher.now) (to_seal at text.entry.bytes.now) (state_of self.old.table) ≡ record { box = state_of self.new.table; answer = value_answer result out.new } }
+        ensures does { does (C.alg cipher.now) (to_seal at text.entry.bytes.now) self.old ≡ record { box = self.new; answer = value_answer result out.new } }
         ensures wiped { OnErr result (out.new ≡ []) }
     {
         out.clear();
-        let sealer = self.table.places.find(at)?;
-        sealer.tag.in_role(Role::Sealer)?;
+        let sealer = self.table.places.find_in_role(at, Role::Sealer)?;
         let stamp = self.table.counts.next_stamp()?;
-        cipher.seal(sealer.key, stamp, text, out);
+        cipher.seal(sealer.key, stamp.spend(), text, out);
         Ok(())
     }
 
@@ -62,22 +60,20 @@ impl Device {
         blob: &[u8],
         out: &mut Buffer,
     ) -> Result<(), Refusal>
-        ensures does { does (C.alg cipher.now) (to_open at blob.now) (state_of self.now.table) ≡ record { box = state_of self.now.table; answer = value_answer result out.new } }
+        ensures does { does (C.alg cipher.now) (to_open at blob.now) self.now ≡ record { box = self.now; answer = value_answer result out.new } }
         ensures wiped { OnErr result (out.new ≡ []) }
     {
         out.clear();
-        let opener = self.table.places.find(at)?;
-        opener.tag.in_role(Role::Sealer)?;
+        let opener = self.table.places.find_in_role(at, Role::Sealer)?;
         cipher.unseal(opener.key, blob, out)?;
         Ok(())
     }
 
     /// Gives the mark of a text.
     pub fn mark<C: Cipher>(&self, cipher: &C, at: u8, text: &[u8]) -> Result<[u8; 16], Refusal>
-        ensures { does (C.alg cipher.now) (to_mark at text.now) (state_of self.now.table) ≡ record { box = state_of self.now.table; answer = mark_answer result } }
+        ensures { does (C.alg cipher.now) (to_mark at text.now) self.now ≡ record { box = self.now; answer = mark_answer result } }
     {
-        let marker = self.table.places.find(at)?;
-        marker.tag.in_role(Role::Marker)?;
+        let marker = self.table.places.find_in_role(at, Role::Marker)?;
         Ok(cipher.mark(marker.key, text))
     }
 }

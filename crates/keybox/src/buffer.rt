@@ -2,13 +2,18 @@
 
 ghost use Rattle.std.specs.Prelude.{◌≡◌, ◌+◌, ◌≤◌, [], ◌++◌, length};
 
+use crate::text::TEXT_LIMIT;
 use keys::key::wipe;
 use std::marker::Model;
 
-/// Up to 1,052 bytes, in fixed memory, since a box has no heap. Noughts stand behind them.
+/// How many bytes a blob has at most: those of a text, 12 of a stamp and 16 of an authentication
+/// tag.
+pub const BLOB_LIMIT: usize = TEXT_LIMIT + 28;
+
+/// Up to `BLOB_LIMIT` bytes, in fixed memory, since a box has no heap. Noughts stand behind them.
 #[derive(Drop)]
 pub struct Buffer {
-    bytes: [u8; 1052],
+    bytes: [u8; BLOB_LIMIT],
     len: usize,
 }
 
@@ -30,7 +35,7 @@ impl Buffer {
         ensures { result ≡ [] }
     {
         Buffer {
-            bytes: [0; 1052],
+            bytes: [0; BLOB_LIMIT],
             len: 0,
         }
     }
@@ -46,7 +51,7 @@ impl Buffer {
     /// Copies a part behind the bytes.
     #[tactic(auto, using(std::proofs::lemmas::Grind::common_steps, crate::proofs::BufferLaws::kept_more))]
     pub fn extend(&mut self, part: &[u8])
-        requires { length self.old + length part.now ≤ 1052 }
+        requires { length self.old + length part.now ≤ BLOB_LIMIT }
         ensures { self.new ≡ self.old ++ part.now }
     {
         let end = self.len + part.len();
@@ -57,7 +62,7 @@ impl Buffer {
     /// The bytes.
     pub fn as_slice(&self) -> &[u8]
         ensures value { result.now ≡ self.now }
-        ensures bound { length result.now ≤ 1052 }
+        ensures bound { length result.now ≤ BLOB_LIMIT }
     {
         &self.bytes[..self.len]
     }

@@ -1,27 +1,40 @@
 //! The box, and the commands that need no blob.
 
-ghost use Rattle.std.specs.Prelude.{◌≡◌, ℕ, List, [], OnErr};
+ghost use Rattle.std.specs.Prelude.{◌≡◌, ℕ, List, OnErr};
 ghost use Rattle.keys.specs.Algebra.{Algebra};
 ghost use Rattle.keys.specs.Machine.{does, fresh, house_slot, put_at, Full as full_place, Make as to_make, Load as to_load, Show as to_show, Forget as to_forget};
-ghost use Rattle.keys.specs.Padded.{padded};
+ghost use Rattle.keys.specs.Padded.{blank_key};
 ghost use Rattle.keys.specs.Replies.{done_answer, place_answer, value_answer};
-ghost use Rattle.keys.specs.Tables.{state_of};
 
 use crate::cipher::Cipher;
+use crate::spare::put_spare;
 use keys::key::{Key, wipe};
 use keys::refusal::Refusal;
 use keys::role::Role;
 use keys::slot::Slot;
 use keys::table::Table;
 use keys::tag::Tag;
+use std::marker::Model;
 
 /// A box: its table, and memory for a key on its way to a place. Between commands that memory is
-/// noughts.
+/// noughts. Clauses see the box of the machine that the table stands for.
 #[derive(Drop)]
 pub struct Device {
     pub(crate) table: Table,
     pub(crate) spare: Key,
-    ghost clear: { spare.bytes ≡ padded 16 [] },
+}
+
+impl Model for Device {
+    ghost use Rattle.std.specs.Prelude.{◌≡◌, ℕ, List};
+    ghost use Rattle.keys.specs.Machine.{Box};
+    ghost use Rattle.keys.specs.Padded.{blank_key};
+    ghost use Rattle.keys.specs.Tables.{state_of};
+
+    ghost Value = { Box (List ℕ) };
+
+    ghost view = { λ d. state_of d.table };
+
+    ghost invariant = { λ d. d.spare.bytes ≡ blank_key };
 }
 
 /// The place of the house key.
@@ -30,7 +43,7 @@ const HOUSE: u8 = 63;
 impl Device {
     /// A new box.
     pub fn start<C: Cipher>(cipher: &C, number: u32) -> Device
-        ensures { state_of result.table ≡ fresh (C.alg cipher.now) number }
+        ensures { result ≡ fresh (C.alg cipher.now) number }
     {
         let mut device = Device {
             table: Table::blank(number),
@@ -42,7 +55,7 @@ impl Device {
 
     /// Makes this a new box; what it held is wiped.
     pub fn start_in<C: Cipher>(&mut self, cipher: &C, number: u32)
-        ensures { state_of self.new.table ≡ fresh (C.alg cipher.now) number }
+        ensures { self.new ≡ fresh (C.alg cipher.now) number }
     {
         self.table.clear(number);
         self.put_house(cipher);
@@ -50,40 +63,31 @@ impl Device {
 
     // The house key is a wrapper that stays.
     fn put_house<C: Cipher>(&mut self, cipher: &C)
-        ensures { state_of self.new.table ≡ put_at 63 (full_place (house_slot (C.alg cipher.now))) (state_of self.old.table) }
+        ensures { self.new ≡ put_at HOUSE (full_place (house_slot (C.alg cipher.now))) self.old }
     {
         cipher.house(&mut self.spare.bytes);
-        let house = Slot {
-            key: &self.spare.bytes,
-            tag: Tag {
-                role: Role::Wrapper,
-                stays: true,
-            },
+        let tag = Tag {
+            role: Role::Wrapper,
+            stays: true,
         };
-        self.table.put(HOUSE, house);
-        self.spare.wipe();
+        put_spare(&mut self.table, &mut self.spare, HOUSE, tag);
     }
 
     /// Draws a key, if there is a place for it.
     pub fn make<C: Cipher>(&mut self, cipher: &mut C, tag: Tag) -> Result<u8, Refusal>
-        ensures does { does (C.alg cipher.old) (to_make tag) (state_of self.old.table) ≡ record { box = state_of self.new.table; answer = place_answer result } }
+        ensures does { does (C.alg cipher.old) (to_make tag) self.old ≡ record { box = self.new; answer = place_answer result } }
         ensures same { C.alg cipher.new ≡ C.alg cipher.old }
     {
         let at = self.table.places.first_empty()?;
         let drawn = self.table.counts.next_draw()?;
         cipher.draw(self.table.counts.number(), drawn, &mut self.spare.bytes);
-        let slot = Slot {
-            key: &self.spare.bytes,
-            tag,
-        };
-        self.table.put(at, slot);
-        self.spare.wipe();
+        put_spare(&mut self.table, &mut self.spare, at, tag);
         Ok(at)
     }
 
     /// Takes in a key from outside, which doesn't stay.
     pub fn load(&mut self, role: Role, key: &[u8; 16]) -> Result<u8, Refusal>
-        ensures { (a : Algebra (List ℕ)) → does a (to_load role key.now) (state_of self.old.table) ≡ record { box = state_of self.new.table; answer = place_answer result } }
+        ensures { (a : Algebra (List ℕ)) → does a (to_load role key.now) self.old ≡ record { box = self.new; answer = place_answer result } }
     {
         self.table.place(Slot {
             key,
@@ -91,10 +95,10 @@ impl Device {
         })
     }
 
-    /// Gives a key away, unless it stays.
+    /// Gives a key away, unless it stays. A key goes to lent memory, which whoever lends it wipes.
     pub fn show(&self, at: u8, out: &mut [u8; 16]) -> Result<(), Refusal>
-        ensures does { (a : Algebra (List ℕ)) → does a (to_show at) (state_of self.now.table) ≡ record { box = state_of self.now.table; answer = value_answer result out.new } }
-        ensures wiped { OnErr result (out.new ≡ padded 16 []) }
+        ensures does { (a : Algebra (List ℕ)) → does a (to_show at) self.now ≡ record { box = self.now; answer = value_answer result out.new } }
+        ensures wiped { OnErr result (out.new ≡ blank_key) }
     {
         wipe(out);
         let Slot { key, tag } = self.table.places.find(at)?;
@@ -105,7 +109,7 @@ impl Device {
 
     /// Empties a place, and wipes the key.
     pub fn forget(&mut self, at: u8) -> Result<(), Refusal>
-        ensures { (a : Algebra (List ℕ)) → does a (to_forget at) (state_of self.old.table) ≡ record { box = state_of self.new.table; answer = done_answer result } }
+        ensures { (a : Algebra (List ℕ)) → does a (to_forget at) self.old ≡ record { box = self.new; answer = done_answer result } }
     {
         self.table.places.find(at)?;
         self.table.empty(at);

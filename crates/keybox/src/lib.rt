@@ -6,4 +6,5 @@ pub mod buffer;
 pub mod cipher;
 pub mod device;
 pub mod placing;
+mod spare;
 pub mod text;

@@ -1,19 +1,23 @@
 //! What a box seals.
 
 ghost use Rattle.std.specs.Prelude.{◌≡◌, ◌≤◌, ◌<◌, length, MatchResult};
+ghost use Rattle.keybox.specs.declared.text.TheConstants.{TEXT_LIMIT};
 
 use std::error::Error;
 use std::fmt;
 use std::fmt::Display;
 
-/// At most 1,024 bytes, which any cipher has room to seal.
-#[derive(Clone, Copy, Debug)]
+/// How many bytes a text has at most.
+pub const TEXT_LIMIT: usize = 1024;
+
+/// A text of at most `TEXT_LIMIT` bytes, which any cipher has room to seal.
+#[derive(Clone, Copy)]
 pub struct Text<'a> {
     bytes: &'a [u8],
-    ghost fits: { length bytes.now ≤ 1024 },
+    ghost fits: { length bytes.now ≤ TEXT_LIMIT },
 }
 
-/// More than 1,024 bytes.
+/// More than `TEXT_LIMIT` bytes.
 #[derive(Clone, Copy, Debug, PartialEq, Eq)]
 pub struct TextTooLong;
 
@@ -28,10 +32,10 @@ impl Error for TextTooLong {}
 impl<'a> TryFrom<&'a [u8]> for Text<'a> {
     type Error = TextTooLong;
 
-    ghost try_from_gives = { λ bytes outcome. MatchResult outcome (λ text. text.bytes.now ≡ bytes.now) (λ _. 1024 < length bytes.now) };
+    ghost try_from_gives = { λ bytes outcome. MatchResult outcome (λ text. text.bytes.now ≡ bytes.now) (λ _. TEXT_LIMIT < length bytes.now) };
 
     fn try_from(bytes: &'a [u8]) -> Result<Text<'a>, TextTooLong> {
-        if bytes.len() > 1024 {
+        if bytes.len() > TEXT_LIMIT {
             return Err(TextTooLong);
         }
         Ok(Text { bytes })
@@ -42,7 +46,7 @@ impl<'a> Text<'a> {
     /// The bytes.
     pub fn as_slice(self) -> &'a [u8]
         ensures value { result.now ≡ self.entry.bytes.now }
-        ensures bound { length result.now ≤ 1024 }
+        ensures bound { length result.now ≤ TEXT_LIMIT }
     {
         self.bytes
     }

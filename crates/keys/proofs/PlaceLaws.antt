@@ -6,10 +6,9 @@ use Rattle.std.specs.Prelude.{Ok}
 use Rattle.std.specs.List.{position, position_or_len}
 use Rattle.keys.specs.Checks.{Rooms}
 use Rattle.keys.specs.declared.tag.Tag.{Tag}
-use Rattle.keys.specs.Machine.{Empty, empties, first_empty, put_at, Place}
-use Rattle.keys.specs.Tables.{holding, place_of, state_of}
+use Rattle.keys.specs.Machine.{Empty, capacity, empties, first_empty, Place}
+use Rattle.keys.specs.Contents.{holding, place_of}
 use Rattle.keys.specs.declared.place.Place as code
-use Rattle.keys.specs.declared.table.Table.{Table}
 
 -- one more empty place at the end
 pub empties_more : {V : Type 0} (n : ℕ) → empties {V = V} n ++ Empty ∷ [] ≡ empties (n + 1)
@@ -29,12 +28,9 @@ empty_more ps i p h e t =
 pub all_empty : (ps : List code.Place) (n : ℕ) → take n (map place_of ps) ≡ empties n → length ps ≡ n → map place_of ps ≡ empties n
 all_empty ps n e all = sym (take_all n (map place_of ps) (omega (arith, length-map ps place_of))) ∙ e
 
--- a write to a place of a table is one to that of its box
-pub put_state : (t : Table) (i : ℕ) (p : code.Place) (q : Place (List ℕ)) → place_of p ≡ q
-    → state_of (record { counts = t.counts; places = record { slots = set t.places.slots i p } }) ≡ put_at i q (state_of t)
-put_state t i p q e =
-    ap (λ (ps : List (Place (List ℕ))). record { number = t.counts.number; drawn = t.counts.drawn; count = t.counts.count; places = ps })
-    (map-set place_of t.places.slots i p ∙ ap (set (map place_of t.places.slots) i) e)
+-- a write to a place
+pub put_place : (ps : List code.Place) (i : ℕ) (p : code.Place) (q : Place (List ℕ)) → place_of p ≡ q → map place_of (set ps i p) ≡ set (map place_of ps) i q
+put_place ps i p q e = map-set place_of ps i p ∙ ap (set (map place_of ps) i) e
 
 -- whether a place is empty
 abbrev pub vacant : code.Place → Bool
@@ -54,13 +50,13 @@ first_from [] i = omega arith
 first_from (p ∷ ps) i = first_of p.tag p.key.bytes (map place_of ps) i (position_or_len vacant ps) (first_from ps (i + 1))
 
 -- what a search among n comes to, if it ends at m
-found_at : (b : Bool) (m n : ℕ) → nat_lt m n ≡ b → n ≡ 64
-    → MatchOption (cond b (Some m) None) (nat_lt m n ≡ false) (λ i. (nat_lt m n ≡ true) × (i ≡ m) × (i < 64))
+found_at : (b : Bool) (m n : ℕ) → nat_lt m n ≡ b → n ≡ capacity
+    → MatchOption (cond b (Some m) None) (nat_lt m n ≡ false) (λ i. (nat_lt m n ≡ true) × (i ≡ m) × (i < capacity))
 found_at true m n e h = let less = ltb-true m n e in (e, refl, omega arith)
 found_at false m n e h = e
 
 -- what a search for the first empty place comes to
-pub rooms : (ps : List code.Place) (r : Option ℕ) → r ≡ position vacant ps → length ps ≡ 64
+pub rooms : (ps : List code.Place) (r : Option ℕ) → r ≡ position vacant ps → length ps ≡ capacity
     → MatchOption r (nat_lt (first_empty 0 (map place_of ps)) (length (map place_of ps)) ≡ false) (λ i. Rooms (map place_of ps) (Ok i))
 rooms ps r e n =
     let first : first_empty 0 (map place_of ps) ≡ position_or_len vacant ps = omega (arith, first_from ps 0) in

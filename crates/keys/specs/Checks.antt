@@ -1,24 +1,35 @@
 -- What the checks of a command answer.
-use Rattle.std.specs.Prelude.{◌≡◌, ℕ, ◌+◌, ◌<◌, Bool, true, false, not, List, map, length, Ok, Err, Result, nat_lt, slice_index_or}
+use Rattle.std.specs.Prelude.{◌≡◌, ℕ, ◌+◌, ◌<◌, Bool, true, false, not, List, length, Ok, Err, Result, nat_lt, slice_index_or}
 use Rattle.keys.specs.declared.counts.Counts.{Counts}
 use Rattle.keys.specs.declared.refusal.Refusal.{Refusal}
-use Rattle.keys.specs.declared.refusal.Refusal.TheVariants.{NoKey, NoRoom, UsedUp}
-use Rattle.keys.specs.declared.place.Place.{Place}
+use Rattle.keys.specs.declared.refusal.Refusal.TheVariants.{NoKey, NoRoom, WrongRole, UsedUp}
+use Rattle.keys.specs.declared.role.Role.{Role}
 use Rattle.keys.specs.declared.slot.Slot.{Slot}
 use Rattle.keys.specs.declared.stamp.Stamp.{Stamp}
+use Rattle.keys.specs.Algebra.{same_role}
 use Rattle.keys.specs.Machine as machine
 use Rattle.keys.specs.Machine.{Empty, Full, first_empty, limit, capacity}
-use Rattle.keys.specs.Tables.{place_of, slot_of, stamp_of}
+use Rattle.keys.specs.Tables.{slot_of, stamp_of}
 
 -- Ok if the test came out as wanted, else this refusal
 abbrev pub Checks : (wanted test : Bool) → Refusal → Result (Unit {0}) Refusal → Type 0
 Checks w b e (Ok u) = b ≡ w
 Checks w b e (Err d) = (b ≡ not w) × (d ≡ e)
 
+-- why a place gives no key of role r
+abbrev pub Misfits : Role → machine.Place (List ℕ) → Refusal → Type 0
+Misfits r Empty d = d ≡ NoKey
+Misfits r (Full s) d = (same_role r s.tag.role ≡ false) × (d ≡ WrongRole)
+
 -- the key in place i with its tag, or that there is none
-abbrev pub Finds : List Place → ℕ → Result Slot Refusal → Type 0
-Finds ps i (Ok s) = (slice_index_or (map place_of ps) i Empty ≡ Full (slot_of s)) × (i < capacity)
-Finds ps i (Err d) = (slice_index_or (map place_of ps) i Empty ≡ Empty) × (d ≡ NoKey)
+abbrev pub Finds : List (machine.Place (List ℕ)) → ℕ → Result Slot Refusal → Type 0
+Finds ps i (Ok s) = (slice_index_or ps i Empty ≡ Full (slot_of s)) × (i < capacity)
+Finds ps i (Err d) = (slice_index_or ps i Empty ≡ Empty) × (d ≡ NoKey)
+
+-- the key in place i, which has role r; or that there is none, or one of another role
+abbrev pub FindsInRole : List (machine.Place (List ℕ)) → ℕ → Role → Result Slot Refusal → Type 0
+FindsInRole ps i r (Ok s) = Finds ps i (Ok s) × (same_role r s.tag.role ≡ true)
+FindsInRole ps i r (Err d) = Misfits r (slice_index_or ps i Empty) d
 
 -- the first empty place, or that there is none
 abbrev pub Rooms : List (machine.Place (List ℕ)) → Result ℕ Refusal → Type 0

@@ -1,6 +1,7 @@
 pub mod Algebra
 pub mod Checks
 pub mod Clear
+pub mod Contents
 pub mod Machine
 pub mod Padded
 pub mod Replies

@@ -4,7 +4,7 @@ ghost use Rattle.std.specs.Prelude.{◌≡◌};
 ghost use Rattle.keys.specs.Checks.{Counted, Draws, Stamps};
 
 use crate::refusal::Refusal;
-use crate::stamp::Stamp;
+use crate::stamp::{Stamp, StampNumbers};
 
 /// How many keys a box draws, and how many blobs it makes, before it is used up.
 const LIMIT: u64 = 1 << 48;
@@ -56,8 +56,10 @@ impl Counts {
     {
         let count = next(&mut self.count)?;
         Ok(Stamp {
-            number: self.number,
-            count,
+            numbers: StampNumbers {
+                number: self.number,
+                count,
+            },
         })
     }
 

@@ -1,5 +1,5 @@
 ghost use Rattle.std.specs.Prelude.{◌≡◌, [], length};
-ghost use Rattle.keys.specs.Padded.{padded};
+ghost use Rattle.keys.specs.Padded.{blank_key, padded};
 
 /// Overwrites lent memory with noughts.
 #[tactic(auto, using(crate::proofs::PaddedLaws::padded_none))]
@@ -18,15 +18,14 @@ impl Key {
     /// A key of noughts, to be written over.
     #[tactic(auto, unfolding(crate::specs::Padded::padded))]
     pub fn blank() -> Key
-        ensures { result.bytes ≡ padded 16 [] }
+        ensures { result.bytes ≡ blank_key }
     {
         Key { bytes: [0; 16] }
     }
 
-    /// Overwrites the key with noughts.
-    // No twin of the function `wipe`, which serves lent memory too: it is that, said of a key.
+    /// Overwrites the key with noughts: `wipe`, with what `drop` asks for.
     pub fn wipe(&mut self)
-        ensures { self.new.bytes ≡ padded 16 [] }
+        ensures { self.new.bytes ≡ blank_key }
     {
         wipe(&mut self.bytes);
     }
@@ -34,7 +33,7 @@ impl Key {
 
 impl Drop for Key {
     fn drop(self)
-        requires { self.bytes ≡ padded 16 [] }
+        requires { self.bytes ≡ blank_key }
     {
         let Key { bytes: _ } = self;
     }

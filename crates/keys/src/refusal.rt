@@ -9,20 +9,20 @@ use std::fmt;
 #[derive(Clone, Copy, Debug, PartialEq, Eq)]
 pub enum Refusal {
     /// The bytes are no command.
-    Malformed,
+    Malformed = 1,
     /// The place is empty, or there is none of that number.
-    NoKey,
+    NoKey = 2,
     /// No place is empty.
-    NoRoom,
+    NoRoom = 3,
     /// The key has another role.
-    WrongRole,
+    WrongRole = 4,
     /// A key that stays is to be shown, or to be wrapped under one that doesn't stay; or a blob
     /// says that its key stays, under a wrapper that doesn't.
-    Stays,
+    Stays = 5,
     /// The blob doesn't open.
-    NotOpened,
+    NotOpened = 6,
     /// All stamps are used, or all keys drawn.
-    UsedUp,
+    UsedUp = 7,
 }
 
 /// A blob that doesn't open under this key.
@@ -34,15 +34,7 @@ impl From<Refusal> for u8 {
     ghost from_gives = { λ refusal number. number ≡ refusal_number refusal };
 
     fn from(refusal: Refusal) -> u8 {
-        match refusal {
-            Refusal::Malformed => 1,
-            Refusal::NoKey => 2,
-            Refusal::NoRoom => 3,
-            Refusal::WrongRole => 4,
-            Refusal::Stays => 5,
-            Refusal::NotOpened => 6,
-            Refusal::UsedUp => 7,
-        }
+        refusal as u8
     }
 }
 

@@ -8,10 +8,14 @@ use std::fmt;
 /// What a key is for. A key serves this and nothing else.
 #[derive(Clone, Copy, Debug, PartialEq, Eq)]
 pub enum Role {
-    Wrapper,
-    Sealer,
-    Marker,
-    Base,
+    /// Wraps keys, and unwraps them.
+    Wrapper = 1,
+    /// Seals texts, and opens them.
+    Sealer = 2,
+    /// Marks texts.
+    Marker = 3,
+    /// Derives keys.
+    Base = 4,
 }
 
 /// A number that names no role.
@@ -23,12 +27,7 @@ impl From<Role> for u8 {
     ghost from_gives = { λ role number. number ≡ role_number role };
 
     fn from(role: Role) -> u8 {
-        match role {
-            Role::Wrapper => 1,
-            Role::Sealer => 2,
-            Role::Marker => 3,
-            Role::Base => 4,
-        }
+        role as u8
     }
 }
 

@@ -1,19 +1,24 @@
 ghost use Rattle.std.specs.Prelude.{◌≡◌};
 
-/// The right to make one blob: the box's number, and how many blobs it made before. It is neither
-/// copied nor let go, so each that a table gives goes into one blob.
+/// What a blob carries: the number of the box that makes it, and how many blobs it made before.
+#[derive(Clone, Copy, Debug, PartialEq, Eq)]
+pub struct StampNumbers {
+    pub number: u32,
+    pub count: u64,
+}
+
+/// The right to make one blob. It is neither copied nor let go, so each that a box counts is spent
+/// once.
 pub struct Stamp {
-    pub(crate) number: u32,
-    pub(crate) count: u64,
+    pub(crate) numbers: StampNumbers,
 }
 
 impl Stamp {
-    /// The number and the count.
-    pub fn spend(self) -> (u32, u64)
-        ensures number { result.0 ≡ self.number }
-        ensures count { result.1 ≡ self.count }
+    /// The numbers for the blob.
+    pub fn spend(self) -> StampNumbers
+        ensures { result ≡ self.numbers }
     {
-        let Stamp { number, count } = self;
-        (number, count)
+        let Stamp { numbers } = self;
+        numbers
     }
 }

@@ -12,6 +12,7 @@ use crate::slot::Slot;
 
 /// What a box counts, and its places. They are open so that a caller can hold a key of the places
 /// while it counts.
+// No model: a struct with one is closed to others, who borrow its two fields apart.
 #[derive(Drop)]
 pub struct Table {
     pub counts: Counts,
@@ -39,12 +40,11 @@ impl Table {
     }
 
     /// Copies a key into a place.
-    #[tactic(auto, using(crate::proofs::PlaceLaws::put_state))]
     pub fn put(&mut self, at: u8, slot: Slot<'_>)
         requires { at < capacity }
         ensures { state_of self.new ≡ put_at at (full_place (slot_of slot.entry)) (state_of self.old) }
     {
-        self.places.slots[at as usize].fill(slot);
+        self.places.put(at, slot);
     }
 
     /// Copies a key into the first empty place.
@@ -57,11 +57,10 @@ impl Table {
     }
 
     /// Empties a place, and wipes what it held.
-    #[tactic(auto, using(crate::proofs::PlaceLaws::put_state))]
     pub fn empty(&mut self, at: u8)
         requires { at < capacity }
         ensures { state_of self.new ≡ put_at at empty_place (state_of self.old) }
     {
-        self.places.slots[at as usize].clear();
+        self.places.empty(at);
     }
 }

@@ -10,7 +10,7 @@ use keys::key::wipe;
 use keys::refusal::NotOpened;
 use keys::role::Role;
 use keys::slot::Slot;
-use keys::stamp::Stamp;
+use keys::stamp::StampNumbers;
 use keys::tag::Tag;
 
 // What the house key is made of.
@@ -26,7 +26,7 @@ pub struct Plain;
 impl Cipher for Plain {
     ghost alg = { λ _. plain_algebra };
 
-    fn seal(&self, key: &[u8; 16], stamp: Stamp, text: Text<'_>, out: &mut Buffer) {
+    fn seal(&self, key: &[u8; 16], stamp: StampNumbers, text: Text<'_>, out: &mut Buffer) {
         put_stamp(out, stamp);
         out.extend(text.as_slice());
         out.extend(key);
@@ -39,7 +39,7 @@ impl Cipher for Plain {
         Ok(())
     }
 
-    fn wrap(&self, under: &[u8; 16], stamp: Stamp, slot: Slot<'_>, out: &mut Buffer) {
+    fn wrap(&self, under: &[u8; 16], stamp: StampNumbers, slot: Slot<'_>, out: &mut Buffer) {
         let Slot { key, tag } = slot;
         put_stamp(out, stamp);
         out.extend(&[u8::from(tag.role), u8::from(tag.stays)]);

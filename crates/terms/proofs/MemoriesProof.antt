@@ -16,7 +16,7 @@ use Rattle.terms.specs.World.{World, added, slots_of, no_box, box_at, generated_
 use Rattle.terms.specs.Memories.{LiesHeld, BlobOf, wrapping, sealing, MakesBlob, wraps, seals, Issues, Generates, Hears, Memories}
 use Rattle.terms.proofs.Lists.{slots_at, within-added}
 use Rattle.terms.proofs.Places.{at_get_or, at_mem, by_place, set_at}
-use Rattle.terms.proofs.Equal.{shut}
+use Rattle.std.proofs.lemmas.Option.{none-some}
 use Rattle.terms.proofs.Invariant.{invariant}
 
 lies_held : LiesHeld
@@ -24,7 +24,7 @@ lies_held numbers w r i h b s p q = (invariant numbers r).lies b (at_mem w.boxes
 
 -- an answer without a value gives none
 silent : (x : Answer Term) (v : Term) → answer_value x ≡ None → x ≡ Gives v → ⊥
-silent x v n e = shut (sym n ∙ ap answer_value e)
+silent x v n e = none-some v (sym n ∙ ap answer_value e)
 
 -- a blob of box b by command c, or no value
 data Blob (b : Box Term) (c : Command Term) (x : After Term) : Type 0 where
@@ -55,13 +55,13 @@ module _ (b : Box Term) (c : Command Term) where
 
   issues_none : (before : List Term) → ((x : Answer Term) → issued_by c x ≡ None) → Issues b c before (added (issued_by c (does terms c b).answer) before)
   issues_none before n =
-      Issues.none (λ v e p. shut (sym (n (Gives v)) ∙ blob_issued v p))
+      Issues.none (λ v e p. none-some v (sym (n (Gives v)) ∙ blob_issued v p))
       (ap (λ (o : Option Term). added o before) (n (does terms c b).answer))
 
   generates_none : (before : List (Slot Term)) → ((x : Answer Term) → generated_by c b x ≡ None) →
       Generates b c before (added (generated_by c b (does terms c b).answer) before)
   generates_none before n =
-      Generates.none (λ t i e q. shut (sym (n (Placed i)) ∙ ap (λ (d : Command Term). generated_by d b (Placed i)) e))
+      Generates.none (λ t i e q. none-some _ (sym (n (Placed i)) ∙ ap (λ (d : Command Term). generated_by d b (Placed i)) e))
       (ap (λ (o : Option (Slot Term)). added o before) (n (does terms c b).answer))
 
 issues-by : (b : Box Term) (before : List Term) (c : Command Term) → Issues b c before (added (issued_by c (does terms c b).answer) before)

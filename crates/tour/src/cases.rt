@@ -2,6 +2,7 @@
 
 use crate::session::Session;
 use keys::role::Role;
+use keys::tag::Tag;
 use std::io;
 
 /// A key, and a text, that anyone may know.
@@ -31,6 +32,16 @@ pub fn run(rt: &impl Print) -> io::Result<()> {
     between_boxes(rt)
 }
 
+// The tag of a key that stays.
+fn staying(role: Role) -> Tag {
+    Tag { role, stays: true }
+}
+
+// The tag of a key that may leave.
+fn leaving(role: Role) -> Tag {
+    Tag { role, stays: false }
+}
+
 fn title(rt: &impl Print, text: &str) -> io::Result<()> {
     println!(rt; "\n{text}")
 }
@@ -38,8 +49,8 @@ fn title(rt: &impl Print, text: &str) -> io::Result<()> {
 fn wrapped(rt: &impl Print) -> io::Result<()> {
     println!(rt; "A key that stays, wrapped and unwrapped")?;
     let mut first = Session::new(rt, 0);
-    first.make(Role::Wrapper, true)?;
-    first.make(Role::Sealer, true)?;
+    first.make(staying(Role::Wrapper))?;
+    first.make(staying(Role::Sealer))?;
     let blob = first.wrap(1, 0)?;
     first.unwrap(0, blob.as_slice())
 }
@@ -47,7 +58,7 @@ fn wrapped(rt: &impl Print) -> io::Result<()> {
 fn under_loaded(rt: &impl Print) -> io::Result<()> {
     title(rt, "A key that stays, under a loaded wrapper")?;
     let mut first = Session::new(rt, 0);
-    first.make(Role::Sealer, true)?;
+    first.make(staying(Role::Sealer))?;
     first.load(Role::Wrapper, &KNOWN)?;
     first.wrap(0, 1)?;
     Ok(())
@@ -56,10 +67,10 @@ fn under_loaded(rt: &impl Print) -> io::Result<()> {
 fn under_shown(rt: &impl Print) -> io::Result<()> {
     title(rt, "A key that stays, under a wrapper that was shown")?;
     let mut first = Session::new(rt, 0);
-    first.make(Role::Sealer, false)?;
+    first.make(leaving(Role::Sealer))?;
     let key = first.show(0)?;
     first.load(Role::Wrapper, &key)?;
-    first.make(Role::Sealer, true)?;
+    first.make(staying(Role::Sealer))?;
     first.wrap(2, 1)?;
     Ok(())
 }
@@ -79,18 +90,18 @@ fn sealed(rt: &impl Print) -> io::Result<()> {
     title(rt, "A text, sealed and opened")?;
     let mut first = Session::new(rt, 0);
     let mut second = Session::new(rt, 1);
-    first.make(Role::Sealer, true)?;
+    first.make(staying(Role::Sealer))?;
     let blob = first.seal(0, b"ab")?;
     first.open(0, blob.as_slice())?;
     second.open(0, blob.as_slice())?;
-    second.make(Role::Sealer, true)?;
+    second.make(staying(Role::Sealer))?;
     second.open(0, blob.as_slice())
 }
 
 fn derived(rt: &impl Print) -> io::Result<()> {
     title(rt, "Keys derived from a base")?;
     let mut first = Session::new(rt, 0);
-    first.make(Role::Base, false)?;
+    first.make(leaving(Role::Base))?;
     first.derive(0, 5, Role::Sealer)?;
     first.derive(0, 5, Role::Sealer)?;
     first.derive(0, 5, Role::Marker)?;
@@ -104,10 +115,10 @@ fn full(rt: &impl Print) -> io::Result<()> {
     title(rt, "A full box")?;
     let mut first = Session::new(rt, 0);
     for _ in 0..64 {
-        first.make(Role::Sealer, false)?;
+        first.make(leaving(Role::Sealer))?;
     }
     first.forget(9)?;
-    first.make(Role::Sealer, false)?;
+    first.make(leaving(Role::Sealer))?;
     first.show(9)?;
     Ok(())
 }
@@ -115,16 +126,16 @@ fn full(rt: &impl Print) -> io::Result<()> {
 fn other_role(rt: &impl Print) -> io::Result<()> {
     title(rt, "Another role")?;
     let mut first = Session::new(rt, 0);
-    first.make(Role::Sealer, true)?;
+    first.make(staying(Role::Sealer))?;
     first.mark(0, b"ab")?;
-    first.make(Role::Marker, true)?;
+    first.make(staying(Role::Marker))?;
     first.mark(1, b"ab")
 }
 
 fn under_itself(rt: &impl Print) -> io::Result<()> {
     title(rt, "A wrapper under itself")?;
     let mut first = Session::new(rt, 0);
-    first.make(Role::Wrapper, true)?;
+    first.make(staying(Role::Wrapper))?;
     let blob = first.wrap(0, 0)?;
     first.unwrap(0, blob.as_slice())
 }
@@ -132,7 +143,7 @@ fn under_itself(rt: &impl Print) -> io::Result<()> {
 fn shown(rt: &impl Print) -> io::Result<()> {
     title(rt, "A key that stays is not shown")?;
     let mut first = Session::new(rt, 0);
-    first.make(Role::Sealer, true)?;
+    first.make(staying(Role::Sealer))?;
     first.show(0)?;
     Ok(())
 }
@@ -141,7 +152,7 @@ fn between_boxes(rt: &impl Print) -> io::Result<()> {
     title(rt, "From one box to another, under the house key")?;
     let mut first = Session::new(rt, 0);
     let mut second = Session::new(rt, 1);
-    first.make(Role::Sealer, true)?;
+    first.make(staying(Role::Sealer))?;
     let blob = first.wrap(0, 63)?;
     second.unwrap(63, blob.as_slice())?;
     let sealed = first.seal(0, b"ab")?;

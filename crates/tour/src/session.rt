@@ -5,7 +5,7 @@ ghost use Rattle.std.specs.Prelude.{◌≤◌, length};
 use crate::words::{Hex, Named};
 use keybox::buffer::Buffer;
 use keybox::device::Device;
-use keybox::text::Text;
+use keybox::text::{TEXT_LIMIT, Text};
 use keys::refusal::Refusal;
 use keys::role::Role;
 use keys::tag::Tag;
@@ -22,6 +22,7 @@ pub struct Session<'a, P> {
 }
 
 impl<'a, P: Print> Session<'a, P> {
+    /// A new box of this number, which prints by `rt`.
     pub fn new(rt: &'a P, number: u32) -> Session<'a, P> {
         let cipher = Plain;
         let device = Device::start(&cipher, number);
@@ -33,19 +34,22 @@ impl<'a, P: Print> Session<'a, P> {
         }
     }
 
-    pub fn make(&mut self, role: Role, stays: bool) -> io::Result<()> {
-        let answer = self.device.make(&mut self.cipher, Tag { role, stays });
-        let stays = if stays { " stays" } else { "" };
-        println!(self.rt; "{}: make {role}{stays}", self.number)?;
+    /// Draws a key.
+    pub fn make(&mut self, tag: Tag) -> io::Result<()> {
+        let answer = self.device.make(&mut self.cipher, tag);
+        let stays = if tag.stays { " stays" } else { "" };
+        println!(self.rt; "{}: make {}{stays}", self.number, tag.role)?;
         self.print_place(answer)
     }
 
+    /// Takes in a key from outside.
     pub fn load(&mut self, role: Role, key: &[u8; 16]) -> io::Result<()> {
         let answer = self.device.load(role, key);
         println!(self.rt; "{}: load {role} {}", self.number, Hex(key))?;
         self.print_place(answer)
     }
 
+    /// Gives a key away; noughts if the box refuses.
     pub fn show(&mut self, at: u8) -> io::Result<[u8; 16]> {
         let mut key = [0; 16];
         let answer = self.device.show(at, &mut key);
@@ -54,6 +58,7 @@ impl<'a, P: Print> Session<'a, P> {
         Ok(key)
     }
 
+    /// Gives a key away as a blob; no bytes if the box refuses.
     pub fn wrap(&mut self, at: u8, under: u8) -> io::Result<Buffer> {
         let mut blob = Buffer::new();
         let answer = self.device.wrap(&self.cipher, at, under, &mut blob);
@@ -62,14 +67,16 @@ impl<'a, P: Print> Session<'a, P> {
         Ok(blob)
     }
 
+    /// Takes in the key of a blob.
     pub fn unwrap(&mut self, under: u8, blob: &[u8]) -> io::Result<()> {
         let answer = self.device.unwrap(&self.cipher, under, blob);
         println!(self.rt; "{}: unwrap {} under {under}", self.number, Hex(blob))?;
         self.print_place(answer)
     }
 
+    /// Gives a text as a blob; no bytes if the box refuses.
     pub fn seal(&mut self, at: u8, text: &[u8]) -> io::Result<Buffer>
-        requires { length text.now ≤ 1024 }
+        requires { length text.now ≤ TEXT_LIMIT }
     {
         let mut blob = Buffer::new();
         let fitting = Text::try_from(text).unwrap();
@@ -79,6 +86,7 @@ impl<'a, P: Print> Session<'a, P> {
         Ok(blob)
     }
 
+    /// Opens a sealed blob.
     pub fn open(&mut self, at: u8, blob: &[u8]) -> io::Result<()> {
         let mut text = Buffer::new();
         let answer = self.device.open(&self.cipher, at, blob, &mut text);
@@ -86,28 +94,33 @@ impl<'a, P: Print> Session<'a, P> {
         self.print_value(answer, "text", text.as_slice())
     }
 
+    /// Marks a text.
     pub fn mark(&mut self, at: u8, text: &[u8]) -> io::Result<()> {
         let answer = self.device.mark(&self.cipher, at, text);
         println!(self.rt; "{}: mark {at} hex {}", self.number, Hex(text))?;
         self.print(answer.map(|mark| Named("mark", Hex(mark))))
     }
 
+    /// Derives a key from a base.
     pub fn derive(&mut self, base: u8, label: u8, role: Role) -> io::Result<()> {
         let answer = self.device.derive(&self.cipher, base, label, role);
         println!(self.rt; "{}: derive {base} label {label} as {role}", self.number)?;
         self.print_place(answer)
     }
 
+    /// Empties a place.
     pub fn forget(&mut self, at: u8) -> io::Result<()> {
         let answer = self.device.forget(at);
         println!(self.rt; "{}: forget {at}", self.number)?;
         self.print(answer.map(|()| "done"))
     }
 
+    // Prints in which place a key now lies.
     fn print_place(&self, answer: Result<u8, Refusal>) -> io::Result<()> {
         self.print(answer.map(|at| Named("place", at)))
     }
 
+    // Prints the bytes that the box gave.
     fn print_value(
         &self,
         answer: Result<(), Refusal>,

@@ -1,7 +1,12 @@
-use Rattle.std.proofs.Common.{arith}
+use Rattle.std.proofs.Common.{arith, refl}
+use Rattle.keys.specs.Machine.{empties}
 use Rattle.std.proofs.lemmas.List.{length-set}
 use Rattle.keys.proofs.PlaceLaws.{empty_more}
 use Rattle.keys.proofs.places.Places.clear.Goals as goal
+
+pub loop-place-init : goal.loop-place-init
+unfolding empties
+loop-place-init c = (refl, c.self.invariant)
 
 pub loop-place-preserved : goal.loop-place-preserved
 loop-place-preserved c =

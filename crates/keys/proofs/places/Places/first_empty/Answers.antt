@@ -7,15 +7,15 @@ use Rattle.keys.proofs.places.Places.first_empty.Goals as goal
 
 pub returns-in_err-at : goal.returns-in_err-at
 returns-in_err-at c =
-    let ps = c.args.self.now.slots in
+    let ps = c.self.inside.slots in
     let found = position_from_yields_List vacant _ _ c.position.result c.position.ensures.ran (YieldsList-from_slice ps (cc)) (λ x b q k. search (rules, tests)) in
     let none : c.position.result ≡ None = search rules in
     let refused : c.from_residual.result ≡ Err NoRoom = search rules in
-    rw refused (rooms ps None (sym none ∙ found) (search rules), refl)
+    rw (← c.self.view_is, refused) (rooms ps None (sym none ∙ found) c.self.invariant, refl)
 
 pub returns : goal.returns
 returns c =
-    let ps = c.args.self.now.slots in
+    let ps = c.self.inside.slots in
     let found = position_from_yields_List vacant _ _ c.position.result c.position.ensures.ran (YieldsList-from_slice ps (cc)) (λ x b q k. search (rules, tests)) in
     let some : c.position.result ≡ Some c.in_ok-at.at = search rules in
-    rooms ps (Some c.in_ok-at.at) (sym some ∙ found) (search rules)
+    rw (← c.self.view_is) (rooms ps (Some c.in_ok-at.at) (sym some ∙ found) c.self.invariant)
