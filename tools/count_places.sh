@@ -4,7 +4,7 @@
 # Usage: tools/count_places.sh [POINT]     a number from 1 to 8; all of them without one
 cd "$(dirname "$0")/.." || exit 1
 
-files() { find crates -path '*/src/*.rt' | sort; }
+files() { find crates -name out -prune -o -path '*/src/*.rt' -print | sort; }
 
 search() { # title, pattern
     found=$(files | xargs grep -nE -- "$2")
@@ -36,7 +36,7 @@ seven() { search '7 switches' '^ *match |\b(dyn|impl Fn|Fn\(|FnMut|FnOnce)\b'; }
 eight() {
     echo "== 8 answers in each crate: clauses answered, lines"
     for crate in crates/*/; do
-        answers=$(find "$crate" -name Answers.antt -o -name Invariants.antt)
+        answers=$(find "$crate" -name out -prune -o -name Answers.antt -print -o -name Invariants.antt -print)
         [ -n "$answers" ] || continue
         echo "$(basename "$crate"): $(printf '%s\n' $answers | xargs cat | grep -cE '^(abbrev )?pub [^:]* : goal\.'), $(printf '%s\n' $answers | xargs cat | wc -l)"
     done

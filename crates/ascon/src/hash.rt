@@ -41,7 +41,7 @@ impl State {
         }
     }
 
-    // A whole message, padded.
+    // A whole message, padded. Apart from `absorb`, as is said there.
     pub(crate) fn absorb_words(self, message: &[u8]) -> State
         ensures { result ≡ absorbed_words self (words message.now) }
     {

@@ -24,7 +24,7 @@ pub fn bytes(heap: Global, word: &[u8]) -> Result<Secret, Fault>
 }
 
 /// The length that is asked of an output.
-// Not by `parse`, which takes a `+` and any number of digits: the tests before it would be as long as the loop.
+// Not by `parse`, which takes a `+`, and text: the tests before it would be as long as the loop.
 pub fn output_length(word: &[u8]) -> Result<usize, LineError>
     ensures { result ≡ output_length word.now }
 {

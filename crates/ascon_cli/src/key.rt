@@ -9,7 +9,7 @@ ghost use Rattle.ascon_cli.specs.declared.key.TheConstants.{LONGEST_LABEL};
 use crate::fault::LineError;
 use crate::secret::Secret;
 
-/// The most bytes that a label has.
+/// The most bytes that a label has: the format of lines says so for itself, and `ascon` the same.
 pub const LONGEST_LABEL: usize = 256;
 
 /// A key or a nonce: sixteen bytes.

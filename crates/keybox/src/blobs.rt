@@ -1,5 +1,5 @@
-//! Commands that give blobs, texts and marks. A blob or a text goes to the caller's `Buffer`: one
-//! that is a result would be copied, and leave an opened text in memory that nobody wipes.
+//! Commands that give blobs, texts and marks. A text goes to the caller's `Buffer`: as a result it
+//! would leave a copy in memory that nobody wipes. A blob goes there too, and isn't copied either.
 
 ghost use Rattle.std.specs.Prelude.{◌≡◌, [], OnErr};
 ghost use Rattle.keys.specs.Machine.{does, Wrap as to_wrap, Seal as to_seal, Open as to_open, Mark as to_mark};

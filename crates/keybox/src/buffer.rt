@@ -11,6 +11,7 @@ use std::marker::Model;
 pub const BLOB_LIMIT: usize = TEXT_LIMIT + 28;
 
 /// Up to `BLOB_LIMIT` bytes, in fixed memory, since a box has no heap. Noughts stand behind them.
+// Not the kit's `ArrayVec`, which says nothing of the bytes behind its end.
 #[derive(Drop)]
 pub struct Buffer {
     bytes: [u8; BLOB_LIMIT],

@@ -95,7 +95,8 @@ impl Device {
         })
     }
 
-    /// Gives a key away, unless it stays. A key goes to lent memory, which whoever lends it wipes.
+    /// Gives a key away, unless it stays. A key goes to lent memory, which whoever lends it wipes; a
+    /// returned one would be a copy that nobody wipes.
     pub fn show(&self, at: u8, out: &mut [u8; 16]) -> Result<(), Refusal>
         ensures does { (a : Algebra (List ℕ)) → does a (to_show at) self.now ≡ record { box = self.now; answer = value_answer result out.new } }
         ensures wiped { OnErr result (out.new ≡ blank_key) }

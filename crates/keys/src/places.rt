@@ -83,7 +83,8 @@ impl Places {
         Ok(at as u8)
     }
 
-    // Copies a key into a place.
+    // Copies a key into a place. That the number fits stays a clause, of five functions: a type for it
+    // would be converted to in each command, and back for each answer.
     #[tactic(auto, using(crate::proofs::PlaceLaws::put_place))]
     pub(crate) fn put(&mut self, at: u8, slot: Slot<'_>)
         requires { at < capacity }

@@ -29,7 +29,7 @@ pub enum Refusal {
 #[derive(Clone, Copy, Debug, PartialEq, Eq)]
 pub struct NotOpened;
 
-/// The first byte of the answer. No other code names these numbers.
+/// The first byte of the answer: the numbers stand in the enum, and in no other code.
 impl From<Refusal> for u8 {
     ghost from_gives = { λ refusal number. number ≡ refusal_number refusal };
 
