@@ -178,6 +178,16 @@ ciphertext_back (suc n) s c f h w =
 cut_16 : (t : List ℕ) → Cut 16 (length t / 16) t
 cut_16 t = cut 16 (omega arith) (length t / 16) t refl
 
+-- a ciphertext is as long as its text
+pub length-ciphertext : (k n a t : List ℕ) → length (ciphertext k n a t) ≡ length t
+unfolding ciphertext
+length-ciphertext k n a t = length-encrypted (length t / 16) (begun k n a) t (cut_16 t)
+
+-- a tag has sixteen bytes
+pub length-tag : (k n a t : List ℕ) → length (tag k n a t) ≡ 16
+unfolding tag finalized bytes
+length-tag k n a t = refl
+
 -- what was sealed opens, and what opens is the sealing of what it opens to, where the state before the
 -- text fits its words
 module _ (k n a : List ℕ) (s : State) (start : s ≡ begun k n a) (f : Fits s) where

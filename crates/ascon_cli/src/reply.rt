@@ -1,6 +1,6 @@
 //! The results that lines ask for.
 
-ghost use Rattle.std.specs.Prelude.{◌≡◌, Some, None, MatchOption};
+ghost use Rattle.std.specs.Prelude.{◌≡◌, Some, None, MatchOption, OnOk};
 ghost use Rattle.ascon_cli.specs.Errors.{Grew};
 ghost use Rattle.ascon_cli.specs.Format.{result_of, shown, unsealed};
 ghost use Rattle.ascon_cli.specs.Views.{asked_of, output_of, parts_of};
@@ -10,33 +10,46 @@ use crate::request::{Output, Packet, Request};
 use crate::secret::Secret;
 use std::alloc::AllocError;
 
-/// Adds the result of `request` to `out`.
-pub fn perform(request: Request, out: &mut Secret) -> Result<(), AllocError>
+/// Adds the result of `request` to `out`, and wipes `aside`, by whose memory `out` grows.
+pub fn perform(request: Request, aside: &mut Secret, out: &mut Secret) -> Result<(), AllocError>
     ensures { Grew result out.old out.new (result_of (asked_of request)) }
 {
     match request {
-        Request::Seal(packet) => seal(packet, out),
-        Request::Open(packet) => open(packet, out),
-        Request::Hash(text) => hash(text, out),
-        Request::Xof(output) => xof(output, out),
+        Request::Seal(packet) => seal(packet, aside, out),
+        Request::Open(packet) => open(packet, aside, out),
+        Request::Hash(text) => hash(text, aside, out),
+        Request::Xof(output) => xof(output, aside, out),
     }
 }
 
-fn seal(packet: Packet, out: &mut Secret) -> Result<(), AllocError>
+// Makes room for so many more bytes, and for the end of the line.
+fn make_room(more: usize, aside: &mut Secret, out: &mut Secret) -> Result<(), AllocError>
+    ensures { OnOk result (out.new ≡ out.old) }
+{
+    out.reserve(more, aside)?;
+    out.reserve(more.saturating_add(1), aside)
+}
+
+fn seal(packet: Packet, aside: &mut Secret, out: &mut Secret) -> Result<(), AllocError>
     ensures { Grew result out.old out.new (result_of (sealing (parts_of packet))) }
 {
     let Packet { context, mut text } = packet;
     let tag = context.aead().seal(text.as_mut_slice());
+    // For the text first, then for the tag too, as the pieces come, but before there are any: what
+    // is asked for as one would be less now, and moved sooner by a longer answer.
+    let digits = text.len().saturating_mul(2);
+    out.reserve(digits, aside)?;
+    make_room(digits.saturating_add(32), aside, out)?;
     out.extend_in_digits(text.as_slice())?;
     out.extend_in_digits(&tag)
 }
 
-fn open(packet: Packet, out: &mut Secret) -> Result<(), AllocError>
+fn open(packet: Packet, aside: &mut Secret, out: &mut Secret) -> Result<(), AllocError>
     ensures { Grew result out.old out.new (result_of (opening (parts_of packet))) }
 {
     match unseal(packet) {
-        Some(text) => show(text.as_slice(), out),
-        None => out.extend(b"refused"),
+        Some(text) => show(text.as_slice(), aside, out),
+        None => say(b"refused", aside, out),
     }
 }
 
@@ -52,14 +65,14 @@ fn unseal(packet: Packet) -> Option<Secret>
     Some(text)
 }
 
-fn hash(text: Secret, out: &mut Secret) -> Result<(), AllocError>
+fn hash(text: Secret, aside: &mut Secret, out: &mut Secret) -> Result<(), AllocError>
     ensures { Grew result out.old out.new (result_of (hashing text)) }
 {
     let digest = ascon::hash256(text.as_slice());
-    out.extend_in_digits(&digest)
+    show(&digest, aside, out)
 }
 
-fn xof(output: Output, out: &mut Secret) -> Result<(), AllocError>
+fn xof(output: Output, aside: &mut Secret, out: &mut Secret) -> Result<(), AllocError>
     ensures { Grew result out.old out.new (result_of (output_of output)) }
 {
     let mut squeezed = Secret::zeros(out.heap(), output.length)?;
@@ -69,15 +82,24 @@ fn xof(output: Output, out: &mut Secret) -> Result<(), AllocError>
         squeezed.as_mut_slice(),
     )
     .unwrap();
-    show(squeezed.as_slice(), out)
+    show(squeezed.as_slice(), aside, out)
+}
+
+/// Adds a word or a message.
+pub fn say(text: &[u8], aside: &mut Secret, out: &mut Secret) -> Result<(), AllocError>
+    ensures { Grew result out.old out.new text.now }
+{
+    make_room(text.len(), aside, out)?;
+    out.extend(text)
 }
 
 // Adds the digits of `bytes`, or a dash if there are none.
-fn show(bytes: &[u8], out: &mut Secret) -> Result<(), AllocError>
+fn show(bytes: &[u8], aside: &mut Secret, out: &mut Secret) -> Result<(), AllocError>
     ensures { Grew result out.old out.new (shown bytes.now) }
 {
     if bytes.is_empty() {
-        return out.extend(b"-");
+        return say(b"-", aside, out);
     }
+    make_room(bytes.len().saturating_mul(2), aside, out)?;
     out.extend_in_digits(bytes)
 }

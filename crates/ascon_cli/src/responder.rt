@@ -6,7 +6,7 @@ ghost use Rattle.ascon_cli.specs.Format.{reply};
 ghost use Rattle.ascon_cli.specs.Stream.{last_reply, pending, replies, CutsDoNotMatter, LineByLine};
 
 use crate::fault::Fault;
-use crate::reply::perform;
+use crate::reply::{perform, say};
 use crate::request::read_request;
 use crate::secret::Secret;
 use crate::split::position;
@@ -91,8 +91,12 @@ impl Responder {
         ensures { Grew result self.old.out self.new.out (reply self.old.line) }
     {
         match read_request(self.out.heap(), self.line.as_slice()) {
-            Ok(request) => perform(request, &mut self.out),
-            Err(Fault::Line(error)) => self.out.extend(error.message().as_bytes()),
+            Ok(request) => perform(request, &mut self.line, &mut self.out),
+            Err(Fault::Line(error)) => say(
+                error.message().as_bytes(),
+                &mut self.line,
+                &mut self.out,
+            ),
             Err(Fault::Memory) => Err(AllocError),
         }
     }

@@ -1,6 +1,6 @@
 //! Bytes that leave no trace.
 
-ghost use Rattle.std.specs.Prelude.{◌≡◌, [], ◌++◌, is_ok, if◌then◌else◌, length, replicate, take, ◌==◌, IfOk};
+ghost use Rattle.std.specs.Prelude.{◌≡◌, ◌⊎◌, [], ◌++◌, is_ok, if◌then◌else◌, length, replicate, take, ◌==◌, IfOk, OnOk};
 ghost use Rattle.lines.specs.Hex.{decoded, encoded};
 ghost use Rattle.ascon_cli.specs.Errors.{Agrees};
 ghost use Rattle.ascon_cli.specs.declared.fault.LineError.TheVariants.{NotHexadecimal};
@@ -90,24 +90,60 @@ impl Secret {
     }
 
     // A `Vec` that grows would leave its old bytes behind: they are moved here, and wiped.
-    fn reserve(&mut self, more: usize) -> Result<(), AllocError>
+    fn move_to(&mut self, capacity: usize) -> Result<(), AllocError>
         ensures { self.new ≡ self.old }
     {
-        let length = self.bytes.len().saturating_add(more);
-        if length > self.bytes.capacity() {
-            let mut larger = Vec::with_capacity(self.heap(), length.saturating_mul(2))?;
-            larger.extend_from_slice(self.bytes.as_slice())?;
-            std::mem::swap(&mut self.bytes, &mut larger);
-            larger.fill(0);
-        }
+        let mut other = Vec::with_capacity(self.heap(), capacity)?;
+        other.extend_from_slice(self.bytes.as_slice())?;
+        std::mem::swap(&mut self.bytes, &mut other);
+        other.fill(0);
         Ok(())
+    }
+
+    /// Makes room for `more` bytes behind those that are there, so that adding them moves nothing.
+    ///
+    /// `aside` keeps its bytes where there is room already, and else has none then.
+    #[inline(always)]
+    pub fn reserve(&mut self, more: usize, aside: &mut Secret) -> Result<(), AllocError>
+        ensures same { OnOk result (self.new ≡ self.old) }
+        ensures aside { (aside.new ≡ aside.old) ⊎ (aside.new ≡ []) }
+    {
+        let length = self.bytes.len().saturating_add(more);
+        if length <= self.bytes.capacity() {
+            return Ok(());
+        }
+        self.grow(length, aside)
+    }
+
+    // Memory that grows where it is takes no second piece beside it, but the heap may have to move
+    // it, and would leave its bytes behind. So they lie in `aside` meanwhile; where they don't fit
+    // into its memory, they are moved.
+    fn grow(&mut self, length: usize, aside: &mut Secret) -> Result<(), AllocError>
+        ensures same { OnOk result (self.new ≡ self.old) }
+        ensures aside { aside.new ≡ [] }
+    {
+        aside.clear();
+        if self.bytes.len() > aside.bytes.capacity() {
+            let doubled = self.bytes.capacity().saturating_mul(2);
+            return self.move_to(length.max(doubled));
+        }
+        aside.extend(self.bytes.as_slice())?;
+        self.clear();
+        let room = self.bytes.reserve(length);
+        let back = self.bytes.extend_from_slice(aside.as_slice());
+        aside.clear();
+        back?;
+        room
     }
 
     /// Adds `more`, or nothing if there is no memory for it.
     pub fn extend(&mut self, more: &[u8]) -> Result<(), AllocError>
         ensures { self.new ≡ (if is_ok result then self.old ++ more.now else self.old) }
     {
-        self.reserve(more.len())?;
+        let length = self.bytes.len().saturating_add(more.len());
+        if length > self.bytes.capacity() {
+            self.move_to(length.saturating_mul(2))?;
+        }
         self.bytes.extend_from_slice(more)
     }
 
@@ -115,7 +151,13 @@ impl Secret {
     pub fn extend_in_digits(&mut self, more: &[u8]) -> Result<(), AllocError>
         ensures { self.new ≡ (if is_ok result then self.old ++ encoded more.now else self.old) }
     {
-        self.reserve(more.len().saturating_mul(2))?;
+        let length = self
+            .bytes
+            .len()
+            .saturating_add(more.len().saturating_mul(2));
+        if length > self.bytes.capacity() {
+            self.move_to(length.saturating_mul(2))?;
+        }
         hex::encode_onto(more, &mut self.bytes)
     }
 

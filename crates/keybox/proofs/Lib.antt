@@ -1,1 +1,2 @@
 pub mod BufferLaws
+pub mod TagLaws

@@ -11,10 +11,12 @@ use crate::device::Device;
 use crate::text::Text;
 use keys::refusal::Refusal;
 use keys::role::Role;
+use keys::slot::Slot;
 
 impl Device {
     /// Gives a key away as a blob that only the wrapper opens; a key that stays only under one
     /// that stays.
+    #[tactic(auto, using(crate::proofs::TagLaws::tag_read))]
     pub fn wrap<C: Cipher>(
         &mut self,
         cipher: &C,
@@ -26,11 +28,12 @@ impl Device {
         ensures wiped { OnErr result (out.new ≡ []) }
     {
         out.clear();
-        let slot = self.table.places.find(at)?;
+        let Slot { key, tag } = self.table.places.find(at)?;
         let wrapper = self.table.places.find_in_role(under, Role::Wrapper)?;
-        slot.tag.leaves_under(wrapper.tag)?;
+        tag.leaves_under(wrapper.tag)?;
         let stamp = self.table.counts.next_stamp()?;
-        cipher.wrap(wrapper.key, stamp.spend(), slot, out);
+        let role = u8::from(tag.role);
+        cipher.wrap(wrapper.key, stamp.spend(), role, tag.stays, key, out);
         Ok(())
     }
 

@@ -1,22 +1,22 @@
 //! What a box asks of its ciphers.
 
 ghost use Rattle.std.specs.Prelude.{◌≡◌, ◌≤◌, List, ℕ, [], length, OnErr};
-ghost use Rattle.keys.specs.Algebra.{Algebra};
+ghost use Rattle.keys.specs.Algebra.{Algebra, role_of};
 ghost use Rattle.keys.specs.Padded.{blank_key};
 ghost use Rattle.keys.specs.Tables.{numbers_of};
-ghost use Rattle.keybox.specs.Lent.{opened, unwrapped};
+ghost use Rattle.keybox.specs.Lent.{opened, tag_for, unwrapped};
 
 use crate::buffer::Buffer;
 use crate::text::{TEXT_LIMIT, Text};
 use keys::refusal::NotOpened;
-use keys::role::Role;
-use keys::slot::Slot;
 use keys::stamp::StampNumbers;
 use keys::tag::Tag;
 
 /// A suite of ciphers over keys of 16 bytes. `alg` is what it does with bytes: each method gives
-/// just the bytes that `alg` gives. A `Key` owns memory that must be wiped; what is lent of it,
-/// also in a `Slot`, is its bytes, and keys are written to lent memory, which the box wipes.
+/// just the bytes that `alg` gives. A `Key` owns memory that must be wiped; what is lent of it is
+/// its bytes, and keys are written to lent memory, which the box wipes. To a cipher a role is a
+/// byte, and any byte is answered: `role_of` says as which role.
+// Not a `Role`: a caller that has a byte would have to refuse some of them first.
 pub trait Cipher {
     ghost alg: { Self → Algebra (List ℕ) };
 
@@ -30,9 +30,17 @@ pub trait Cipher {
         ensures fits { length out.new ≤ TEXT_LIMIT }
         ensures wiped { OnErr result (out.new ≡ []) };
 
-    /// A blob of the key with its tag.
-    fn wrap(&self, under: &[u8; 16], stamp: StampNumbers, slot: Slot<'_>, out: &mut Buffer)
-        ensures { out.new ≡ (alg self.now).wrap under.now (numbers_of stamp) slot.entry.tag slot.entry.key.now };
+    /// A blob of the key with its role and whether it stays.
+    fn wrap(
+        &self,
+        under: &[u8; 16],
+        stamp: StampNumbers,
+        role: u8,
+        stays: bool,
+        key: &[u8; 16],
+        out: &mut Buffer,
+    )
+        ensures { out.new ≡ (alg self.now).wrap under.now (numbers_of stamp) (tag_for role stays) key.now };
 
     /// Writes the key of a blob of `wrap` to `out`, and gives the tag of that key.
     fn unwrap(&self, under: &[u8; 16], blob: &[u8], out: &mut [u8; 16]) -> Result<Tag, NotOpened>
@@ -44,8 +52,8 @@ pub trait Cipher {
         ensures { result ≡ (alg self.now).mark key.now text.now };
 
     /// The key that is derived from a base for a label and a role: the same each time.
-    fn derive(&self, key: &[u8; 16], label: u8, role: Role, out: &mut [u8; 16])
-        ensures { out.new ≡ (alg self.now).derive key.now label role };
+    fn derive(&self, key: &[u8; 16], label: u8, role: u8, out: &mut [u8; 16])
+        ensures { out.new ≡ (alg self.now).derive key.now label (role_of role) };
 
     /// The key that every box holds from the start.
     fn house(&self, out: &mut [u8; 16])

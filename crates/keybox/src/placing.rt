@@ -28,6 +28,7 @@ impl Device {
     }
 
     /// Derives a key, which stays if the base does.
+    #[tactic(auto, using(keys::proofs::RoleLaws::role_number_lem))]
     pub fn derive<C: Cipher>(
         &mut self,
         cipher: &C,
@@ -38,7 +39,7 @@ impl Device {
         ensures { does (C.alg cipher.now) (to_derive base label role) self.old ≡ record { box = self.new; answer = place_answer result } }
     {
         let from = self.table.places.find_in_role(base, Role::Base)?;
-        cipher.derive(from.key, label, role, &mut self.spare.bytes);
+        cipher.derive(from.key, label, role.into(), &mut self.spare.bytes);
         let tag = Tag {
             role,
             stays: from.tag.stays,

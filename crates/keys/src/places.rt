@@ -2,6 +2,7 @@
 
 ghost use Rattle.std.specs.Prelude.{◌≡◌, ◌<◌, slice_set};
 ghost use Rattle.keys.specs.Checks.{Finds, FindsInRole, Rooms};
+ghost use Rattle.keys.specs.Contents.{key_at};
 ghost use Rattle.keys.specs.Machine.{capacity, empties, Empty as empty_place, Full as full_place};
 ghost use Rattle.keys.specs.Tables.{slot_of};
 
@@ -60,6 +61,14 @@ impl Places {
             key: &place.key.bytes,
             tag,
         })
+    }
+
+    /// The bytes of the key in a place; noughts if it is empty.
+    pub fn key(&self, at: u8) -> &[u8; 16]
+        requires { at < capacity }
+        ensures { result.now ≡ key_at at self.now }
+    {
+        &self.slots[at as usize].key.bytes
     }
 
     /// The key in a place, with its tag, if it serves this role.

@@ -120,5 +120,16 @@ writes_back [] bs e = let q : bs ≡ [] = cc in ap encoded q
 writes_back (h ∷ []) bs e = absurd (none-some bs e)
 writes_back (h ∷ l ∷ ds) bs e = write_pair h l ds bs (digit h) (digit l) (decoded ds) refl refl (λ cs f. writes_back ds cs f) e
 
+-- Two digits for each byte.
+pub length-encoded : (bs : List ℕ) → length (encoded bs) ≡ 2 * length bs
+unfolding encoded
+length-encoded [] = refl
+length-encoded (b ∷ bs) = let e = length-encoded bs in omega arith
+
+pub encoded-append : (bs cs : List ℕ) → encoded (bs ++ cs) ≡ encoded bs ++ encoded cs
+unfolding encoded
+encoded-append [] cs = refl
+encoded-append (b ∷ bs) cs = ap (λ ds. sign (b / 16) ∷ sign (b % 16) ∷ ds) (encoded-append bs cs)
+
 -- Both theorems, for the check to find.
 pub ruleset theorems = (reads_back, writes_back)

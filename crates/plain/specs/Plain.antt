@@ -3,8 +3,9 @@ use Rattle.std.specs.Prelude.{ℕ, ◌-◌, ◌/◌, ◌%◌, Bool, cond, ◌&&�
 use Rattle.std.specs.Str.{bytes_eq}
 use Rattle.keys.specs.declared.role.Role.{Role}
 use Rattle.keys.specs.declared.tag.Tag.{Tag}
-use Rattle.keys.specs.Algebra.{role_number, role_of, Stamp, Slot, Algebra}
+use Rattle.keys.specs.Algebra.{role_number, Stamp, Slot, Algebra}
 use Rattle.keys.specs.Padded.{padded}
+use Rattle.keybox.specs.Lent.{tag_for}
 
 -- the four bytes of a number, lowest first
 unfoldable pub four_bytes : ℕ → List ℕ
@@ -23,10 +24,6 @@ stamp_bytes s = four_bytes s.number ++ eight_bytes s.count
 -- the two bytes of a tag: the role's number, then 1 if the key stays and 0 if not
 abbrev pub tag_bytes : Tag → List ℕ
 tag_bytes t = role_number t.role ∷ cond t.stays 1 0 ∷ []
-
--- the tag of a role's number and staying
-abbrev pub tag_for : ℕ → Bool → Tag
-tag_for r s = record { role = role_of r; stays = s }
 
 -- the tag of two bytes
 abbrev pub read_tag : ℕ → ℕ → Option Tag

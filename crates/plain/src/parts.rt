@@ -1,6 +1,7 @@
 //! The parts that blobs of the plain cipher are written and read by.
 
 ghost use Rattle.std.specs.Prelude.{◌≡◌, length};
+ghost use Rattle.keys.specs.Algebra.{role_number, role_of};
 ghost use Rattle.keys.specs.Tables.{numbers_of};
 ghost use Rattle.plain.specs.Parts.{lent_slot, lent_text};
 ghost use Rattle.plain.specs.Plain.{read_tag, stamp_bytes, unsealed, unwrapped};
@@ -24,6 +25,16 @@ pub(crate) fn put_stamp(out: &mut Buffer, stamp: StampNumbers)
     out.clear();
     out.extend(&stamp.number.to_le_bytes());
     out.extend(&stamp.count.to_le_bytes());
+}
+
+// The number of the role that any number stands for.
+pub(crate) fn role_number(role: u8) -> u8
+    ensures { result ≡ role_number (role_of role) }
+{
+    match role {
+        1..=3 => role,
+        _ => 4,
+    }
 }
 
 // The tag of two bytes, if they are one.

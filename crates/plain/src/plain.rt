@@ -2,13 +2,12 @@
 
 ghost use Rattle.plain.specs.Plain.{plain as plain_algebra};
 
-use crate::parts::{put_stamp, sealed_text, wrapped_slot};
+use crate::parts::{put_stamp, role_number, sealed_text, wrapped_slot};
 use keybox::buffer::Buffer;
 use keybox::cipher::Cipher;
 use keybox::text::Text;
 use keys::key::wipe;
 use keys::refusal::NotOpened;
-use keys::role::Role;
 use keys::slot::Slot;
 use keys::stamp::StampNumbers;
 use keys::tag::Tag;
@@ -39,10 +38,17 @@ impl Cipher for Plain {
         Ok(())
     }
 
-    fn wrap(&self, under: &[u8; 16], stamp: StampNumbers, slot: Slot<'_>, out: &mut Buffer) {
-        let Slot { key, tag } = slot;
+    fn wrap(
+        &self,
+        under: &[u8; 16],
+        stamp: StampNumbers,
+        role: u8,
+        stays: bool,
+        key: &[u8; 16],
+        out: &mut Buffer,
+    ) {
         put_stamp(out, stamp);
-        out.extend(&[u8::from(tag.role), u8::from(tag.stays)]);
+        out.extend(&[role_number(role), u8::from(stays)]);
         out.extend(key);
         out.extend(under);
     }
@@ -64,9 +70,9 @@ impl Cipher for Plain {
         mark
     }
 
-    fn derive(&self, key: &[u8; 16], label: u8, role: Role, out: &mut [u8; 16]) {
+    fn derive(&self, key: &[u8; 16], label: u8, role: u8, out: &mut [u8; 16]) {
         let (front, rest) = out.split_at_mut(2);
-        front.copy_from_slice(&[u8::from(role), label]);
+        front.copy_from_slice(&[role_number(role), label]);
         rest.copy_from_slice(&key[..14]);
     }
 
