@@ -1,6 +1,6 @@
 //! The results that lines ask for.
 
-ghost use Rattle.std.specs.Prelude.{◌≡◌, Some, None, MatchOption, OnOk};
+ghost use Rattle.std.specs.Prelude.{◌≡◌, Some, None, MatchOption};
 ghost use Rattle.ascon_cli.specs.Errors.{Grew};
 ghost use Rattle.ascon_cli.specs.Format.{result_of, shown, unsealed};
 ghost use Rattle.ascon_cli.specs.Views.{asked_of, output_of, parts_of};
@@ -10,7 +10,7 @@ use crate::request::{Output, Packet, Request};
 use crate::secret::Secret;
 use std::alloc::AllocError;
 
-/// Adds the result of `request` to `out`, and wipes `aside`, by whose memory `out` grows.
+/// Adds the result of `request` to `out`, which grows by the memory of `aside`.
 pub fn perform(request: Request, aside: &mut Secret, out: &mut Secret) -> Result<(), AllocError>
     ensures { Grew result out.old out.new (result_of (asked_of request)) }
 {
@@ -22,14 +22,6 @@ pub fn perform(request: Request, aside: &mut Secret, out: &mut Secret) -> Result
     }
 }
 
-// Makes room for so many more bytes, and for the end of the line.
-fn make_room(more: usize, aside: &mut Secret, out: &mut Secret) -> Result<(), AllocError>
-    ensures { OnOk result (out.new ≡ out.old) }
-{
-    out.reserve(more, aside)?;
-    out.reserve(more.saturating_add(1), aside)
-}
-
 fn seal(packet: Packet, aside: &mut Secret, out: &mut Secret) -> Result<(), AllocError>
     ensures { Grew result out.old out.new (result_of (sealing (parts_of packet))) }
 {
@@ -39,7 +31,7 @@ fn seal(packet: Packet, aside: &mut Secret, out: &mut Secret) -> Result<(), Allo
     // is asked for as one would be less now, and moved sooner by a longer answer.
     let digits = text.len().saturating_mul(2);
     out.reserve(digits, aside)?;
-    make_room(digits.saturating_add(32), aside, out)?;
+    out.reserve_line(digits.saturating_add(32), aside)?;
     out.extend_in_digits(text.as_slice())?;
     out.extend_in_digits(&tag)
 }
@@ -89,7 +81,7 @@ fn xof(output: Output, aside: &mut Secret, out: &mut Secret) -> Result<(), Alloc
 pub fn say(text: &[u8], aside: &mut Secret, out: &mut Secret) -> Result<(), AllocError>
     ensures { Grew result out.old out.new text.now }
 {
-    make_room(text.len(), aside, out)?;
+    out.reserve(text.len().saturating_add(1), aside)?;
     out.extend(text)
 }
 
@@ -100,6 +92,6 @@ fn show(bytes: &[u8], aside: &mut Secret, out: &mut Secret) -> Result<(), AllocE
     if bytes.is_empty() {
         return say(b"-", aside, out);
     }
-    make_room(bytes.len().saturating_mul(2), aside, out)?;
+    out.reserve_line(bytes.len().saturating_mul(2), aside)?;
     out.extend_in_digits(bytes)
 }

@@ -81,6 +81,7 @@ impl Responder {
         ensures { Grew result self.old.out self.new.out (reply self.old.line ++ 10 ∷ []) }
     {
         self.answer()?;
+        self.out.reserve(1, &mut self.line)?;
         self.out.extend(b"\n")
     }
 

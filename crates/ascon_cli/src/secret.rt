@@ -115,6 +115,19 @@ impl Secret {
         self.grow(length, aside)
     }
 
+    /// Makes room for `more` bytes and for the end of their line. The latter is left to a later
+    /// `reserve` where `aside` can hold all those bytes then: what the line asked for is let go first.
+    pub fn reserve_line(&mut self, more: usize, aside: &mut Secret) -> Result<(), AllocError>
+        ensures { OnOk result (self.new ≡ self.old) }
+    {
+        self.reserve(more, aside)?;
+        let length = self.bytes.len().saturating_add(more);
+        if length <= aside.bytes.capacity() {
+            return Ok(());
+        }
+        self.reserve(more.saturating_add(1), aside)
+    }
+
     // Memory that grows where it is takes no second piece beside it, but the heap may have to move
     // it, and would leave its bytes behind. So they lie in `aside` meanwhile; where they don't fit
     // into its memory, they are moved.
@@ -123,9 +136,9 @@ impl Secret {
         ensures aside { aside.new ≡ [] }
     {
         aside.clear();
-        if self.bytes.len() > aside.bytes.capacity() {
-            let doubled = self.bytes.capacity().saturating_mul(2);
-            return self.move_to(length.max(doubled));
+        let present = self.bytes.len();
+        if present > aside.bytes.capacity() {
+            return self.move_to(length.max(present.saturating_mul(2)));
         }
         aside.extend(self.bytes.as_slice())?;
         self.clear();
