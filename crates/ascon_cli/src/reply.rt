@@ -27,11 +27,8 @@ fn seal(packet: Packet, aside: &mut Secret, out: &mut Secret) -> Result<(), Allo
 {
     let Packet { context, mut text } = packet;
     let tag = context.aead().seal(text.as_mut_slice());
-    // For the text first, then for the tag too, as the pieces come, but before there are any: what
-    // is asked for as one would be less now, and moved sooner by a longer answer.
-    let digits = text.len().saturating_mul(2);
-    out.reserve(digits, aside)?;
-    out.reserve_line(digits.saturating_add(32), aside)?;
+    // For the text's digits, then for the tag's and the end of the line.
+    out.reserve_two(text.len().saturating_mul(2), 33, aside)?;
     out.extend_in_digits(text.as_slice())?;
     out.extend_in_digits(&tag)
 }

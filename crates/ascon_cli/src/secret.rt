@@ -128,6 +128,34 @@ impl Secret {
         self.reserve(more.saturating_add(1), aside)
     }
 
+    /// Makes room for `first` bytes and then `second`, at once: as much as a `Vec` takes that is
+    /// added to in these two steps, but without what it has in between.
+    pub fn reserve_two(
+        &mut self,
+        first: usize,
+        second: usize,
+        aside: &mut Secret,
+    ) -> Result<(), AllocError>
+        ensures { OnOk result (self.new ≡ self.old) }
+    {
+        let length = self.bytes.len().saturating_add(first);
+        let whole = length.saturating_add(second);
+        let capacity = self.bytes.capacity();
+        if whole <= capacity {
+            return Ok(());
+        }
+        let doubled = capacity.saturating_mul(2);
+        let once = if length > capacity {
+            length.max(doubled)
+        } else {
+            capacity
+        };
+        if once >= whole {
+            return self.grow(once, aside);
+        }
+        self.grow(once.saturating_mul(2), aside)
+    }
+
     // Memory that grows where it is takes no second piece beside it, but the heap may have to move
     // it, and would leave its bytes behind. So they lie in `aside` meanwhile; where they don't fit
     // into its memory, they are moved.
