@@ -10,7 +10,8 @@ use std::alloc::Global;
 
 const LONGEST_NUMBER: usize = 5;
 
-const LONGEST_OUTPUT: usize = 65536;
+/// The most bytes of an output.
+pub const LONGEST_OUTPUT: usize = 65536;
 
 /// The bytes of an argument in hexadecimal.
 pub fn bytes(heap: Global, word: &[u8]) -> Result<Secret, Fault>

@@ -3,6 +3,7 @@
 
 ghost use Rattle.std.specs.Prelude.{◌≤◌, length, IfOk};
 
+mod answers;
 mod arguments;
 mod fault;
 mod key;
@@ -12,6 +13,7 @@ mod responder;
 mod secret;
 mod split;
 
+use answers::Answers;
 use responder::Responder;
 use secret::Secret;
 use std::io;
@@ -69,7 +71,7 @@ fn answer_all(rt: &impl Print, input: &[u8], responder: &mut Responder) -> io::R
     while !rest.is_empty() {
         let taken = responder.take_line(rest)?;
         rest = &rest[taken..];
-        if responder.out.len() >= BUFFER {
+        if responder.out.as_slice().len() >= BUFFER {
             write_out(rt, &mut responder.out)?;
         }
     }
@@ -77,7 +79,7 @@ fn answer_all(rt: &impl Print, input: &[u8], responder: &mut Responder) -> io::R
 }
 
 // Nothing is kept if it cannot be written, so that nothing is written twice.
-fn write_out(rt: &impl Print, out: &mut Secret) -> io::Result<()> {
+fn write_out(rt: &impl Print, out: &mut Answers) -> io::Result<()> {
     let result = rt.write_all(out.as_slice());
     out.clear();
     result

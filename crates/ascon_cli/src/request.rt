@@ -19,9 +19,9 @@ use std::alloc::Global;
 /// What a text is sealed under.
 #[derive(Drop)]
 pub struct Context {
-    pub key: Key,
-    pub nonce: Key,
     pub associated: Secret,
+    pub nonce: Key,
+    pub key: Key,
 }
 
 impl Context {
@@ -137,9 +137,11 @@ fn read_output(heap: Global, rest: &[u8]) -> Result<Output, Fault>
     let length = split::only_word(rest)?;
     let string = arguments::bytes(heap, string)?;
     let text = arguments::bytes(heap, text)?;
+    let label = Label::try_from(string)?;
+    let length = arguments::output_length(length)?;
     Ok(Output {
-        label: Label::try_from(string)?,
+        label,
         text,
-        length: arguments::output_length(length)?,
+        length,
     })
 }

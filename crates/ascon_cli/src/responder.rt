@@ -5,8 +5,9 @@ ghost use Rattle.ascon_cli.specs.Errors.{Grew};
 ghost use Rattle.ascon_cli.specs.Format.{reply};
 ghost use Rattle.ascon_cli.specs.Stream.{last_reply, pending, replies, CutsDoNotMatter, LineByLine};
 
+use crate::answers::Answers;
 use crate::fault::Fault;
-use crate::reply::{perform, say};
+use crate::reply::perform;
 use crate::request::read_request;
 use crate::secret::Secret;
 use crate::split::position;
@@ -16,7 +17,7 @@ use std::alloc::{AllocError, Global};
 #[derive(Drop)]
 pub struct Responder {
     line: Secret,
-    pub out: Secret,
+    pub out: Answers,
 }
 
 impl Responder {
@@ -27,7 +28,7 @@ impl Responder {
     {
         Responder {
             line: Secret::new(heap),
-            out: Secret::new(heap),
+            out: Answers::new(heap),
         }
     }
 
@@ -68,7 +69,7 @@ impl Responder {
         ensures text { Grew result self.old.out self.new.out (reply self.old.line ++ 10 ∷ []) }
         ensures rest { self.new.line ≡ [] }
     {
-        let whole = self.out.len();
+        let whole = self.out.as_slice().len();
         let result = self.answer_and_end();
         self.line.clear();
         if result.is_err() {
@@ -81,7 +82,6 @@ impl Responder {
         ensures { Grew result self.old.out self.new.out (reply self.old.line ++ 10 ∷ []) }
     {
         self.answer()?;
-        self.out.reserve(1, &mut self.line)?;
         self.out.extend(b"\n")
     }
 
@@ -91,13 +91,9 @@ impl Responder {
     fn answer(&mut self) -> Result<(), AllocError>
         ensures { Grew result self.old.out self.new.out (reply self.old.line) }
     {
-        match read_request(self.out.heap(), self.line.as_slice()) {
+        match read_request(self.line.heap(), self.line.as_slice()) {
             Ok(request) => perform(request, &mut self.line, &mut self.out),
-            Err(Fault::Line(error)) => say(
-                error.message().as_bytes(),
-                &mut self.line,
-                &mut self.out,
-            ),
+            Err(Fault::Line(error)) => self.out.extend(error.message().as_bytes()),
             Err(Fault::Memory) => Err(AllocError),
         }
     }

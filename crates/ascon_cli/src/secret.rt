@@ -46,6 +46,15 @@ impl Secret {
         })
     }
 
+    /// No bytes, with room for as many as `capacity` says.
+    pub fn with_capacity(heap: Global, capacity: usize) -> Result<Secret, AllocError>
+        ensures { IfOk result (λ s. s ≡ []) }
+    {
+        Ok(Secret {
+            bytes: Vec::with_capacity(heap, capacity)?,
+        })
+    }
+
     /// As many noughts as `length` says.
     pub fn zeros(heap: Global, length: usize) -> Result<Secret, AllocError>
         ensures { IfOk result (λ s. s ≡ replicate length 0) }
@@ -100,81 +109,47 @@ impl Secret {
         Ok(())
     }
 
-    /// Makes room for `more` bytes behind those that are there, so that adding them moves nothing.
+    /// Whether there is room for `more` bytes behind those that are there.
+    pub fn has_room(&self, more: usize) -> bool {
+        self.bytes.len().saturating_add(more) <= self.bytes.capacity()
+    }
+
+    /// Makes room for `more` bytes behind those that are there, in memory that grows where it lies.
     ///
     /// `aside` keeps its bytes where there is room already, and else has none then.
     #[inline(always)]
     pub fn reserve(&mut self, more: usize, aside: &mut Secret) -> Result<(), AllocError>
-        ensures same { OnOk result (self.new ≡ self.old) }
         ensures aside { (aside.new ≡ aside.old) ⊎ (aside.new ≡ []) }
+        ensures same { self.new ≡ self.old }
     {
-        let length = self.bytes.len().saturating_add(more);
-        if length <= self.bytes.capacity() {
+        if self.has_room(more) {
             return Ok(());
         }
-        self.grow(length, aside)
+        self.grow(more, aside)
     }
 
-    /// Makes room for `more` bytes and for the end of their line. The latter is left to a later
-    /// `reserve` where `aside` can hold all those bytes then: what the line asked for is let go first.
-    pub fn reserve_line(&mut self, more: usize, aside: &mut Secret) -> Result<(), AllocError>
-        ensures { OnOk result (self.new ≡ self.old) }
-    {
-        self.reserve(more, aside)?;
-        let length = self.bytes.len().saturating_add(more);
-        if length <= aside.bytes.capacity() {
-            return Ok(());
-        }
-        self.reserve(more.saturating_add(1), aside)
-    }
-
-    /// Makes room for `first` bytes and then `second`, at once: as much as a `Vec` takes that is
-    /// added to in these two steps, but without what it has in between.
-    pub fn reserve_two(
-        &mut self,
-        first: usize,
-        second: usize,
-        aside: &mut Secret,
-    ) -> Result<(), AllocError>
-        ensures { OnOk result (self.new ≡ self.old) }
-    {
-        let length = self.bytes.len().saturating_add(first);
-        let whole = length.saturating_add(second);
-        let capacity = self.bytes.capacity();
-        if whole <= capacity {
-            return Ok(());
-        }
-        let doubled = capacity.saturating_mul(2);
-        let once = if length > capacity {
-            length.max(doubled)
-        } else {
-            capacity
-        };
-        if once >= whole {
-            return self.grow(once, aside);
-        }
-        self.grow(once.saturating_mul(2), aside)
-    }
-
-    // Memory that grows where it is takes no second piece beside it, but the heap may have to move
-    // it, and would leave its bytes behind. So they lie in `aside` meanwhile; where they don't fit
-    // into its memory, they are moved.
-    fn grow(&mut self, length: usize, aside: &mut Secret) -> Result<(), AllocError>
-        ensures same { OnOk result (self.new ≡ self.old) }
+    // The heap may have to move what grows, and would leave its bytes behind: they lie in the
+    // memory of `aside` meanwhile, and there are only noughts to move.
+    fn grow(&mut self, more: usize, aside: &mut Secret) -> Result<(), AllocError>
         ensures aside { aside.new ≡ [] }
+        ensures same { self.new ≡ self.old }
     {
         aside.clear();
-        let present = self.bytes.len();
-        if present > aside.bytes.capacity() {
-            return self.move_to(length.max(present.saturating_mul(2)));
-        }
         aside.extend(self.bytes.as_slice())?;
-        self.clear();
-        let room = self.bytes.reserve(length);
-        let back = self.bytes.extend_from_slice(aside.as_slice());
+        self.bytes.fill(0);
+        let result = self.bytes.reserve(more);
+        self.bytes.as_mut_slice().copy_from_slice(aside.as_slice());
         aside.clear();
-        back?;
-        room
+        result
+    }
+
+    /// Adds `more`, or nothing if there is no memory for it, in memory that grows as by `reserve`.
+    #[inline(always)]
+    pub fn extend_beside(&mut self, more: &[u8], aside: &mut Secret) -> Result<(), AllocError>
+        ensures { self.new ≡ (if is_ok result then self.old ++ more.now else self.old) }
+    {
+        self.reserve(more.len(), aside)?;
+        self.bytes.extend_from_slice(more)
     }
 
     /// Adds `more`, or nothing if there is no memory for it.
